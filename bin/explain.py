@@ -5,10 +5,13 @@ import os
 import re
 import sys
 
-import faults
-import t2_text
-import unknowns
-from cases import assumptions, count, product
+HERE = os.path.dirname(os.path.realpath(__file__))
+sys.path.insert(0, os.path.join(os.path.dirname(HERE), "python"))
+
+import faults  # noqa: E402
+import unknowns  # noqa: E402
+from cases import Named, ways  # noqa: E402
+from t2.texts import TextParser, parted  # noqa: E402
 
 MOST = 16_777_217
 OBLIGATIONS = {
@@ -20,6 +23,12 @@ OBLIGATIONS = {
     "successor": "a piece has a state at which the program stops",
     "choice": "the step that is named cannot be taken at every state there, or leads elsewhere",
     "root": "the pieces of node 0 do not have the initial states that the claim needs",
+}
+TOGETHER = {
+    "processes": "there are {:,} processes; a text has at most 8",
+    "variables": "all processes together have {:,} variables; there are at most 512",
+    "locations": "the product of the processes has {:,} locations, one for each choice of a location of each; there are at most 1,024",
+    "edges": "the product of the processes has {:,} edges, each once for each choice of locations of the other processes; there are at most 4,096",
 }
 STATUSES = {
     4: "standard input could not be read",
@@ -45,12 +54,6 @@ def option(words: list[str], name: str) -> str:
     return ""
 
 
-def parts_of(text: str) -> tuple[str, str | None]:
-    """The program and, where there is a heading, what stands after it."""
-    found = re.search(r"(?:\A|(?<=\n))CERTIFICATE:\r?(?:\n|\Z)", text)
-    return (text[: found.start()], text[found.end() :]) if found else (text, None)
-
-
 def refused_text(line: str, text: str) -> list[str]:
     place = re.fullmatch(r"Refused text (.+) line (\d+) column (\d+)", line)
     if place:
@@ -60,32 +63,35 @@ def refused_text(line: str, text: str) -> list[str]:
         return refused_edge(edge[1], int(edge[2]), text)
     if line == "Refused text no start":
         return no_start(text)
+    product = re.fullmatch(r"Refused text (?:product )?(\w+) (\d+)", line)
+    if product and product[1] in TOGETHER:
+        return [TOGETHER[product[1]].format(int(product[2]))]
     return ["more bytes came than are read: 1,048,576 of a program, 16,777,216 with --check"]
 
 
 def refused_edge(kind: str, number: int, text: str) -> list[str]:
-    edges = t2_text.program_of(text).edges
-    if number >= len(edges):
+    named = Named(text)
+    if number >= len(named.program.edges):
         return []
-    edge = edges[number]
-    line = t2_text.place_of(text, edge.start)[0]
+    edge = named.program.edges[number]
     if kind == "wide":
         said = "a coefficient or constant comes to 2^62 (4611686018427387904) or more"
     else:
-        said = f"it has {product([count(it, True) for it in assumptions(edge)]):,} ways to be taken, by its || and !=, which is too many: there are at most 8,192 in all, with 8,000,000 numbers"
-    return [f"line {line}: the edge from {edge.source.text} to {edge.target.text}: {said}", *faults.marked(text, edge.start, line), "write it with smaller numbers, or as several edges"]
+        said = f"it has {ways(edge):,} ways to be taken, by its || and !=, which is too many: there are at most 8,192 in all, with 8,000,000 numbers"
+    return [f"line {edge.line}: {named.edge(edge)}: {said}", *faults.marked(text, edge.start, edge.line), "write it with smaller numbers, or as several edges"]
 
 
 def no_start(text: str) -> list[str]:
-    edges = t2_text.program_of(text).edges
     if not text.strip():
         return ["the text is empty: a program is read from standard input, or from a file that is the last word"]
-    first = edges[0].source.text if edges else "0"
-    return [f"nothing says where runs begin: START: {first}; would have them begin at {first}"]
+    process = next((it for it in TextParser(text).read().processes if it.start is None), None)
+    first = process.edges[0].source.text if process and process.edges else "0"
+    of = f" in the process {process.label.text}" if process and process.label else ""
+    return [f"nothing says where runs begin{of}: START: {first}; would have them begin at {first}"]
 
 
 def refused_property(line: str, text: str, words: list[str]) -> list[str]:
-    formula, program = option(words, "--ctl"), t2_text.program_of(text)
+    formula, program = option(words, "--ctl"), Named(text).program
     if any(it.startswith("--safety") for it in words):
         return faults.unknown(option(words, "--safety"), True, program)
     place = re.fullmatch(r"Refused property (.+) column (\d+)", line)
@@ -118,7 +124,7 @@ def said(status: int, answer: str, text: str | None, words: list[str]) -> list[s
         return command_line.explained(words)
     if text is None:
         return [] if status in (2, 3, 7) else of_status(status)
-    program, rest = parts_of(text) if "--check" in words else (text, None)
+    program, rest = parted(text) if "--check" in words else (text, None)
     if lines[0].startswith("Refused text"):
         return refused_text(lines[0], program)
     if lines[0].startswith("Refused property"):
@@ -136,7 +142,6 @@ def of_status(status: int) -> list[str]:
 
 
 def main(given: list[str]) -> int:
-    sys.setrecursionlimit(20_000)
     status, is_kept, words = int(given[0]), given[1] == "yes", given[2:]
     text = read_open(7).decode("latin-1") if is_kept else None
     answer = read_open(4).decode("latin-1")

@@ -1,8 +1,10 @@
 """What is said of a refused text or formula: the line with a mark under the place, what could stand there, and a hint."""
 import re
 
-import t2_text
-from t2_text import ONE, RESERVED, TWO
+from t2.program import Program
+from t2.texts import Text, TextParser
+from t2.tokens import LEXICON, RESERVED, Places, Token, offset_of
+from t2.trees import ONE, RELATIONS, TWO, FormulaParser, listed
 
 WIDTH = 100
 NEAR = 5000
@@ -15,6 +17,7 @@ SENTENCES = {
     "locations": "this label brings in location 1,025; a program has at most 1,024",
     "edges": "this is edge 4,097; a program has at most 4,096",
     "draws": "this is draw 65 of its edge; an edge has at most 64",
+    "label": "this label has a `.`, which joins the labels of processes: _a.b is where one process is at a and the other at b",
 }
 # What stands at the place, or just before it, and what is written instead.
 HINTS = [
@@ -76,7 +79,7 @@ def marked(text: str, at: int, number: int | None = None) -> list[str]:
     return [head + readable(line), " " * (len(head) - 2 if number is not None else 0) + ("| " if number is not None else "  ") + " " * len(readable(line[:column])) + "^"]
 
 
-def named(token: t2_text.Token, text: str) -> str:
+def named(token: Token, text: str) -> str:
     """What stands at a place, as it is said."""
     if token.kind == "end":
         return "the end of the text"
@@ -84,12 +87,6 @@ def named(token: t2_text.Token, text: str) -> str:
         shown = readable(text[token.start : token.start + 4])[:1]
         return f"`{shown}`" if shown.isascii() and shown not in "? " or shown.isprintable() and ord(shown) > 159 and shown != "\ufffd" else "this byte"
     return f"`{readable(token.text.splitlines()[0][:40])}`"
-
-
-def listed(wanted: list[str]) -> str:
-    """What could stand at a place, in words."""
-    wanted = [it for it in wanted if it not in ("`]`",)] or wanted
-    return wanted[0] if len(wanted) == 1 else ", ".join(wanted[:-1]) + " or " + wanted[-1]
 
 
 def similar(word: str, among: list[str]) -> str:
@@ -107,7 +104,7 @@ def hint_by_place(text: str, at: int) -> str:
     return ""
 
 
-def hint_by_tokens(before: t2_text.Token | None, here: t2_text.Token, wanted: list[str]) -> str:
+def hint_by_tokens(before: Token | None, here: Token, wanted: list[str]) -> str:
     """A hint from the token at the place and the one before it."""
     was = before.text if before else ""
     for word in (here.text, was):
@@ -132,7 +129,7 @@ def hint_by_tokens(before: t2_text.Token | None, here: t2_text.Token, wanted: li
         return f"a product has a sign: {was} * {here.text}"
     if "`:=`" in wanted and here.text in ("==", "<", ">", "<=", ">="):
         return "a command is x := .. or assume(..)"
-    if here.text in t2_text.RELATIONS and "`&&`" in wanted:
+    if here.text in RELATIONS and "`&&`" in wanted:
         return "a chain of relations is written as two comparisons: 0 <= x && x <= 5"
     return "a ; may be missing before this" if "`;`" in wanted else ""
 
@@ -146,7 +143,7 @@ def connective_hint(word: str) -> str:
     return f"{word} is written {CONNECTIVES[word]}" if word in CONNECTIVES else ""
 
 
-def formula_hint(before: t2_text.Token | None, here: t2_text.Token, wanted: list[str]) -> str:
+def formula_hint(before: Token | None, here: Token, wanted: list[str]) -> str:
     """A hint that is of formulas alone."""
     was, operators = before.text if before else "", (*ONE, *TWO)
     if was in operators or was in LETTERS:
@@ -182,6 +179,16 @@ def syntax(text: str, at: int, tokens: list, parsed_at: int, wanted: list[str], 
     return [told] + ([hint] if hint else [])
 
 
+def no_processes(text: str, read: Text) -> list[str]:
+    """Why a text with a heading is not read as processes."""
+    bad = next((it for it in read.tokens if it.kind in ("bad", "wide")), None)
+    if bad is None:
+        return []
+    line, column = Places(text).of(bad.start)
+    hint = hint_by_place(text, bad.start)
+    return [f"it is not read as processes, since {named(bad, text)} in line {line}, column {column} can stand nowhere", *([hint] if hint else [])]
+
+
 def window(text: str, at: int) -> tuple[int, int]:
     """What is read of a long text around a fault: from an edge some way before it. If no edge begins there after all, the fault that is found is
     another one, and only the place is told."""
@@ -190,23 +197,24 @@ def window(text: str, at: int) -> tuple[int, int]:
 
 def of_text(kind: str, line: int, column: int, text: str) -> list[str]:
     """What is said of a program's text that is refused at a place."""
-    at = t2_text.offset_of(text, line, column)
+    at = offset_of(text, line, column)
     if kind == "syntax":
         first, last = window(text, at)
-        program = t2_text.ProgramParser(text[first:last])
-        read = program.read()
-        said = syntax(text[first:last], at - first, program.tokens, read.fault.start if read.fault else -1, read.wanted, False)
+        read = TextParser(text[first:last]).read()
+        said = syntax(text[first:last], at - first, read.tokens, read.fault.start if read.fault else -1, read.wanted, False)
+        said += no_processes(text[first:last], read) if read.fault and read.fault.kind == "PROCESS" else []
     else:
         said = [SENTENCES[kind.removeprefix("too many ")]]
     return [f"line {line}, column {column}: {said[0]}", *marked(text, at, line), *said[1:]]
 
 
-def of_formula(kind: str, column: int, formula: str, program: t2_text.Program) -> list[str]:
+def of_formula(kind: str, column: int, formula: str, program: Program) -> list[str]:
     """What is said of a formula, or of a label, that is refused at a place."""
     at = column - 1
     if kind == "syntax":
-        parser = t2_text.formula_of(formula)[1]
-        said = syntax(formula, at, parser.tokens, parser.tokens[parser.furthest].start, parser.wanted, True)
+        parser = FormulaParser(formula)
+        parser.whole()
+        said = syntax(formula, at, parser.tokens, parser.seen.start, parser.wanted, True)
     elif kind == "unknown name":
         said = unknown_name(formula, at, program)
     else:
@@ -214,8 +222,8 @@ def of_formula(kind: str, column: int, formula: str, program: t2_text.Program) -
     return [f"column {column} of the formula: {said[0]}", *marked(formula, at), *said[1:]]
 
 
-def unknown_name(formula: str, at: int, program: t2_text.Program) -> list[str]:
-    token = t2_text.token_at(formula, at)
+def unknown_name(formula: str, at: int, program: Program) -> list[str]:
+    token = LEXICON.token_at(formula, at)
     is_label = bool(re.search(r"\bat\s*\(\s*\Z", formula[:at]))
     said = unknown(token.text, is_label, program)
     if is_label or said[0].endswith("?"):
@@ -224,7 +232,7 @@ def unknown_name(formula: str, at: int, program: t2_text.Program) -> list[str]:
     return said + ([more] if more else [])
 
 
-def unknown(name: str, is_label: bool, program: t2_text.Program) -> list[str]:
+def unknown(name: str, is_label: bool, program: Program) -> list[str]:
     """What is said of a name that the program does not have."""
     among, what = (program.labels, "location") if is_label else (program.variables, "variable")
     shown = ", ".join(among[:12]) + (", .." if len(among) > 12 else "")

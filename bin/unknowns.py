@@ -1,8 +1,7 @@
 """What an answer Unknown means in the names of the program, and what to try."""
 import re
 
-import cases
-import t2_text
+from cases import Named, subformula
 
 MOST_CASES = 6
 SMALLER = "smaller constants, or counting in larger units, make smaller numbers; no option moves the limit of 2^62"
@@ -12,17 +11,16 @@ class Asked:
     """What was asked: the program's text and what was read of it, the formula, and the words."""
 
     def __init__(self, text: str, formula: str, words: list[str]) -> None:
-        self.text, self.program, self.formula, self.words = text, t2_text.program_of(text), formula, words
+        self.named, self.formula, self.words = Named(text), formula, words
+        self.program = self.named.program
 
     def case(self, number: int) -> str:
-        told = cases.case(self.program, self.text, number)
+        told = self.named.case(number)
         return f"case {number} ({told})" if told else f"case {number}"
 
     def part(self, number: int) -> str:
         """The text of a subformula."""
-        node = t2_text.formula_of(self.formula)[0]
-        found = node and cases.subformula(node, number)
-        text = " ".join(self.formula[found.start : found.end].split()) if found else ""
+        text = subformula(self.formula, number)
         return f"`{text}`" if text else f"subformula {number}"
 
     def limit(self, name: str, left_out: int) -> str:
@@ -95,12 +93,10 @@ def splits(asked: Asked, detail: list[str]) -> list[str]:
 
 
 def width(asked: Asked, detail: list[str]) -> list[str]:
-    if detail[0] == "subformula":
-        return [f"the comparison {asked.part(int(detail[1]))} has a number of 2^62 or more in a part or a row of it, so where it holds was not searched for", f"try: {SMALLER}"]
     if detail[0] == "composed":
         column, names = int(detail[2]), asked.program.variables
         of = f"the coefficient of {names[column]}" if column < len(names) else "the constant"
-        return [f"a number of the search, or that a run has, comes to 2^62 or more, {of} in a row, so whether the property holds is not known", f"try: {SMALLER}"]
+        return [f"a number of the search, or that a run or the formula has, comes to 2^62 or more, {of} in a row, so whether the property holds is not known", f"try: {SMALLER}"]
     return [f"a number of the linear system that tells {system(asked, detail[1:])} comes to 2^62 or more, so whether the property holds is not known", f"try: {SMALLER}"]
 
 

@@ -104,6 +104,11 @@ def of_all(seen: list[str]) -> str:
     for it in ("--check", "--certificate"):
         if it in seen and "--generate" in seen:
             return f"{it} does not go with --generate"
+    if "--trace" in seen and "--termination" not in seen:
+        return "--trace shows a run that never ends, so it goes with --termination alone"
+    for it in ("--check", "--certificate"):
+        if it in seen and "--trace" in seen:
+            return f"--trace does not go with {it}"
     return ""
 
 

@@ -5,6 +5,7 @@ complete -c t2verdict -l ctl -x -d 'the formula holds at every initial state, as
 complete -c t2verdict -l generate -x -d 'every run ends of a program of N loops that is made; nothing is read'
 complete -c t2verdict -l certificate -d 'write the certificate after the answer'
 complete -c t2verdict -l check -d 'check the certificate behind a line CERTIFICATE: in place of searching for one'
+complete -c t2verdict -l trace -x -d 'with --termination: write the first K states of a run that never ends'
 complete -c t2verdict -l pivots -x -d 'how many bases of one linear system are tried'
 complete -c t2verdict -l splits -x -d 'how many splits lie on a path of a cover'
 complete -c t2verdict -l disjuncts -x -d 'how many pieces a region may have at a location'

@@ -12,9 +12,10 @@ from collections import Counter
 from pathlib import Path
 
 sys.dont_write_bytecode = True
-sys.path.insert(0, str(Path(__file__).resolve().parent.parent / "bin"))
-import t2_text  # noqa: E402
-from t2_text import Node, Program, Token  # noqa: E402
+sys.path.insert(0, str(Path(__file__).resolve().parent.parent / "python"))
+from t2.texts import Assign, ProcessText, Text, TextParser, parted, read_bytes  # noqa: E402
+from t2.tokens import Places, Token  # noqa: E402
+from t2.trees import FormulaParser, names_in  # noqa: E402
 
 Warning_ = tuple[int, str]
 STOPS = {"end", "stop", "exit", "done", "halt", "final", "error", "err", "fail", "failed", "bad", "ret", "return", "quit", "finish", "finished", "abort"}
@@ -42,7 +43,7 @@ def meant_stops(text: str) -> set[str]:
     return {it for line in re.findall(r"//[ \t]*stop\b([^\n]*)", text) for it in re.findall(r"[\w.'^$]+", line)}
 
 
-def of_labels(program: Program, text: str) -> list[Warning_]:
+def of_labels(program: ProcessText, text: str) -> list[Warning_]:
     """Locations that no edge leaves, and those that no edge enters."""
     left, entered = {}, {}
     for edge in program.edges:
@@ -67,18 +68,14 @@ def near(label: str, among: dict[str, Token]) -> str:
     return f"; is {found} meant?" if found else ""
 
 
-def names(node: Node) -> list[Node]:
-    return [node] if node.kind == "name" else [it for part in node.parts for it in names(part)]
-
-
-def of_names(program: Program) -> list[Warning_]:
+def of_names(read_text: Text) -> list[Warning_]:
     """Variables that are read and never written beside one that is written and differs by a letter."""
     read, written = {}, set()
-    for edge in program.edges:
-        for kind, it in edge.commands:
-            if kind == "assign":
-                written.add(it[0].text)
-            for node in names(it if kind == "assume" else it[1]):
+    for command in (it for edge in read_text.edges for it in edge.commands):
+        if isinstance(command, Assign):
+            written.add(command.variable.word)
+        for node in command.value if isinstance(command, Assign) else command.condition:
+            if node.kind == "name":
                 read.setdefault(node.word, node.start)
     found = []
     for name, at in read.items():
@@ -88,7 +85,7 @@ def of_names(program: Program) -> list[Warning_]:
     return found
 
 
-def of_sections(program: Program) -> list[Warning_]:
+def of_sections(program: ProcessText) -> list[Warning_]:
     """Sections that are passed over."""
     found = []
     for token in program.sections:
@@ -112,35 +109,36 @@ def of_bytes(text: str, tokens: list[Token]) -> list[Warning_]:
     return found
 
 
-def of_formula(formula: str, program: Program) -> list[str]:
+def of_formula(formula: str, read: Text) -> list[str]:
     """A formula [AG](f) that speaks of the start, where every value is possible."""
-    node = t2_text.formula_of(formula)[0]
-    if node is None or program.start is None or node.word != "AG":
+    node = FormulaParser(formula).whole()
+    start = "_" + ".".join(it.start.text if it.start else "" for it in read.processes)
+    if len(read.processes) == 1 and read.processes[0].label is None:
+        start = start[1:]
+    if node is None or node.word != "AG" or not all(it.start for it in read.processes):
         return []
-    inner, start = node.parts[0], program.start.text
+    inner = node.parts[0]
     leaves_out = inner.kind == "or" and any(it.kind == "at" and it.word == start for it in inner.parts)
-    if leaves_out or not t2_text.names_in(inner):
+    if leaves_out or not names_in(inner):
         return []
     text = formula[inner.start : inner.end].strip("()") if inner.kind == "compare" else formula[inner.start : inner.end]
     return [f"[AG] speaks of the start {start} too, where each variable has any value: [AG](at({start}) || {text}) leaves it out"]
 
 
 def warnings(text: str) -> list[Warning_]:
-    parser = t2_text.ProgramParser(text)
-    program = parser.read()
-    found = [*of_bytes(text, parser.tokens), *of_sections(program), *of_names(program)]
-    if program.fault is None:
-        found += of_labels(program, text)
-    elif not text.startswith("\xef\xbb\xbf"):
-        found.append((program.fault.start, "no program has this here, and what follows was not looked at: t2verdict tells more"))
+    read = TextParser(text).read()
+    found = [*of_bytes(text, read.tokens), *of_names(read)]
+    for process in read.processes:
+        found += of_sections(process)
+        if read.fault is None:
+            found += of_labels(process, text)
+    if read.fault is not None and not text.startswith("\xef\xbb\xbf"):
+        found.append((read.fault.start, "no program has this here, and what follows was not looked at: t2verdict tells more"))
     return sorted(Counter(found))
 
 
 def read_input(name: str | None) -> str:
-    data = Path(name).read_bytes() if name else sys.stdin.buffer.read()
-    text = data.decode("latin-1")
-    heading = re.search(r"(?:\A|(?<=\n))CERTIFICATE:\r?(?:\n|\Z)", text)
-    return text[: heading.start()] if heading else text
+    return parted(read_bytes(Path(name).read_bytes() if name else sys.stdin.buffer.read()))[0]
 
 
 def main(given: list[str]) -> int:
@@ -150,7 +148,6 @@ def main(given: list[str]) -> int:
     if len(given) > 1 or any(it.startswith("-") for it in given):
         print("usage: lint.py [--ctl FORMULA] [FILE]", file=sys.stderr)
         return 2
-    sys.setrecursionlimit(20_000)
     try:
         text = read_input(given[0] if given else None)
         found = warnings(text)
@@ -161,10 +158,11 @@ def main(given: list[str]) -> int:
         print("lint.py: the text nests too deep to be looked at", file=sys.stderr)
         return 2
     name = given[0] if given else "-"
+    places = Places(text)
     for at, said in found:
-        line, column = t2_text.place_of(text, at)
+        line, column = places.of(at)
         print(f"{name}:{line}:{column}: {said}")
-    for said in of_formula(formula, t2_text.program_of(text)) if formula else []:
+    for said in of_formula(formula, TextParser(text).read()) if formula else []:
         print(f"{name}: {said}")
     return 0
 

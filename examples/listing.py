@@ -4,9 +4,13 @@ subformulas of a property.
 
 Status: 0, 2 where the words are wrong, 3 where the program or the property cannot be read."""
 import argparse
+import sys
+from pathlib import Path
 
-from t2.command import given, parser, run
-from t2.listing import listing
+sys.dont_write_bytecode = True
+sys.path.insert(0, str(Path(__file__).resolve().parent.parent / "python"))
+from t2.command import given, parser, run  # noqa: E402
+from t2.listing import listing  # noqa: E402
 
 ABOUT = "Lists the locations, edges and linear cases of a program by their numbers, and the subformulas of a property."
 

@@ -4,12 +4,16 @@ drawn apart, and their ranks, and each edge with its commands. With `--run` the 
 
 Status: 0, 2 where the words are wrong, 3 where the program or the certificate cannot be read, 4 where a step is none of the program."""
 import argparse
+import sys
+from pathlib import Path
 
-from t2.certificates import Node, nodes_of
-from t2.command import OUTPUT, certificate_for, count_of, given, initial_values, parser, run
-from t2.drawing import Drawing
-from t2.runs import Walker
-from t2.tokens import Fault
+sys.dont_write_bytecode = True
+sys.path.insert(0, str(Path(__file__).resolve().parent.parent / "python"))
+from t2.certificates import Node, nodes_of  # noqa: E402
+from t2.command import OUTPUT, certificate_for, count_of, given, initial_values, parser, run  # noqa: E402
+from t2.drawing import Drawing  # noqa: E402
+from t2.runs import Walker  # noqa: E402
+from t2.tokens import Fault  # noqa: E402
 
 ABOUT = "Draws a program and its certificate as a graph for Graphviz."
 

@@ -3,11 +3,15 @@
 
 Status: 0, 2 where the words are wrong, 3 where the program or the certificate cannot be read, 4 where a step is none of the program."""
 import argparse
+import sys
+from pathlib import Path
 
-from t2.command import OUTPUT, certificate_for, count_of, given, initial_values, parser, run
-from t2.names import Names, read_table
-from t2.report import report
-from t2.runs import Walker
+sys.dont_write_bytecode = True
+sys.path.insert(0, str(Path(__file__).resolve().parent.parent / "python"))
+from t2.command import OUTPUT, certificate_for, count_of, given, initial_values, parser, run  # noqa: E402
+from t2.names import Names, read_table  # noqa: E402
+from t2.report import report  # noqa: E402
+from t2.runs import Walker  # noqa: E402
 
 ABOUT = "Prints the run that a certificate determines, state by state."
 

@@ -5,25 +5,24 @@ So what holds of every run of the text holds of every run of the file. Where a c
 the text goes on, and then that every run comes to something is not known of the file either."""
 from __future__ import annotations
 
-from .formulas import operators, opposite
+from t2.formulas import normal, operators
+from t2.trees import Tree
 
 Lost = list[tuple[int, str, str]]
 
 
-def claim(answer: str, formula: str, lost: Lost) -> tuple[str, str]:
+def claim(answer: str, formula: Tree, lost: Lost) -> tuple[str, str]:
     """`yes`, `no` or `not known` of the file, and why."""
     if answer not in ("Proved", "Disproved"):
         return "not known", "the program gave no answer"
     said = "yes" if answer == "Proved" else "no"
     if not lost:
         return said, "the text has exactly the steps of the file"
-    words = operators(formula)
-    if answer == "Disproved":
-        words = {opposite(word) for word in words}
+    words = operators(normal(formula, answer == "Disproved"))
     lines = ", ".join(str(line) for line in sorted({line for line, _, _ in lost}))
     if any(word[0] == "E" for word in words):
         return "not known", f"a run of the text need not be one of the file, which is not linear in line {lines}"
-    if any(kind == "guard" for _, _, kind in lost) and words & {"AF", "AU", "AM"}:
+    if any(kind == "guard" for _, _, kind in lost) and words & {"AU", "AM"}:
         return "not known", f"a run of the file may stop where the text goes on, since a comparison is not linear in line {lines}"
     return said, f"this holds although the file is not linear in line {lines}"
 

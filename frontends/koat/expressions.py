@@ -3,7 +3,7 @@ from __future__ import annotations
 
 from typing import Callable, Union
 
-from .conditions import FALSE, TRUE, Both, Comparison, Condition, Either, both, compare, either, negate
+from .conditions import FALSE, TRUE, Condition, both, compare, either, negate
 from .faults import Refused
 from .polynomials import Polynomial, closed, named, number, power
 from .tokens import Token, Tokens, whole_number

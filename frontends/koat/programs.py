@@ -5,14 +5,16 @@ import re
 from dataclasses import dataclass, field
 from typing import Union
 
+from t2 import writing
+from t2.limits import BYTES, DRAWS, EDGES, LOCATIONS, VARIABLES, WIDE
+from t2.tokens import NO_NAMES, is_wide
+
 from .conditions import AT_MOST, FALSE, TRUE, Both, Comparison, Condition, conjuncts
 from .faults import Refused
 from .polynomials import Polynomial, number
-from .tokens import LIMIT
 
-RESERVED = {"START", "FROM", "TO", "AT", "CUTPOINT", "ERROR", "SHADOW", "PROCESS", "assume", "nondet", "true", "false", "at", "term"}
 DRAW = "nondet()"
-MOST = {"locations": 1024, "edges": 4096, "variables": 512, "draws of one edge": 64, "bytes": 1048576}
+MOST = {"locations": LOCATIONS, "edges": EDGES, "variables": VARIABLES, "draws of one edge": DRAWS, "bytes": BYTES}
 
 
 @dataclass(frozen=True)
@@ -63,11 +65,11 @@ class Names:
         return self.given[thing]
 
     def legal(self, wish: str) -> str:
-        if self.labels and wish.isascii() and wish.isdigit() and int(wish[:20]) < LIMIT:
+        if self.labels and wish.isascii() and wish.isdigit() and not is_wide(wish):
             return wish
         name = re.sub(r"[^A-Za-z0-9_.'^$]", "_", wish)
         name = name if re.match(r"[A-Za-z_]", name) else "v" + name
-        return name + "_" if name in RESERVED else name
+        return name + "_" if name in NO_NAMES else name
 
     def free(self, name: str) -> str:
         taken = set(self.given.values())
@@ -83,13 +85,7 @@ def sum_text(value: Polynomial) -> str:
     """The sum, with what is added first and the constant after the names."""
     terms = [(factor, monomial[0] if monomial else "") for monomial, factor in value.terms.items()]
     terms.sort(key=lambda term: (term[0] < 0, term[1] == ""))
-    written = ""
-    for factor, name in terms:
-        name = DRAW if name.startswith(DRAW) else name
-        size = name if name and abs(factor) == 1 else f"{abs(factor)} * {name}" if name else str(abs(factor))
-        sign = "-" if factor < 0 else "+"
-        written += f" {sign} {size}" if written else size if factor > 0 else f"-{size}"
-    return written or "0"
+    return writing.terms_text((factor, DRAW if name.startswith(DRAW) else name) for factor, name in terms)
 
 
 def comparison_text(one: Comparison) -> str:
@@ -122,8 +118,8 @@ def condition_text(condition: Condition, inside: bool = False) -> str:
 
 def command_lines(command: Command) -> list[str]:
     if isinstance(command, Assume):
-        return [f"  assume({condition_text(part)});" for part in conjuncts(command.condition)]
-    return [f"  {command.name} := {sum_text(command.value)};"]
+        return [f"assume({condition_text(part)});" for part in conjuncts(command.condition)]
+    return [f"{command.name} := {sum_text(command.value)};"]
 
 
 def polynomials(commands: list[Command]) -> list[Polynomial]:
@@ -139,7 +135,7 @@ def check_limits(program: Program) -> None:
     labels, variables = {program.start}, set()
     for count, edge in enumerate(program.edges, 1):
         values = polynomials(edge.commands)
-        if any(abs(factor) >= LIMIT for value in values for factor in value.terms.values()):
+        if any(abs(factor) >= WIDE for value in values for factor in value.terms.values()):
             raise Refused(edge.line, "a number comes to 2^62 or more")
         names = {name for value in values for name in value.names()}
         draws = sum(name.startswith(DRAW) for value in values for name in value.names())
@@ -157,13 +153,8 @@ def program_text(program: Program) -> str:
     if program.unchanged is not None:
         return program.unchanged
     check_limits(program)
-    lines = [f"// {note}" for note in program.notes] + [f"START: {program.start};"]
-    for edge in program.edges:
-        lines += ["", f"FROM: {edge.source};"]
-        for command in edge.commands:
-            lines += command_lines(command)
-        lines.append(f"TO: {edge.target};")
-    text = "\n".join(lines) + "\n"
+    edges = [writing.edge_text(edge.source, [line for command in edge.commands for line in command_lines(command)], edge.target) for edge in program.edges]
+    text = writing.program_text(program.notes, program.start, edges, "\n\n")
     if len(text) > MOST["bytes"]:
         raise Refused(program.edges[-1].line, f"the text is longer than {MOST['bytes']:,} bytes, which is a limit of program texts")
     return text

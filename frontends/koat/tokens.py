@@ -4,9 +4,9 @@ from __future__ import annotations
 import re
 from dataclasses import dataclass
 
-from .faults import Refused
+from t2.tokens import is_wide
 
-LIMIT = 2 ** 62
+from .faults import Refused
 
 
 @dataclass(frozen=True)
@@ -74,11 +74,14 @@ class Tokens:
 
     def words_from(self, place: int) -> str:
         """What was taken from the place on, as words."""
-        words = " ".join(token.text for token in self.tokens[place:self.place])
-        return words if len(words) <= 60 else words[:57] + "..."
+        return shortened(" ".join(token.text for token in self.tokens[place:self.place]))
+
+
+def shortened(words: str) -> str:
+    return words if len(words) <= 60 else words[:57] + "..."
 
 
 def whole_number(token: Token) -> int:
-    if len(token.text) > 19 or int(token.text) >= LIMIT:
+    if is_wide(token.text):
         raise Refused(token.line, f"the number {token.text[:30]} is 2^62 or more")
     return int(token.text)

@@ -5,6 +5,8 @@ from __future__ import annotations
 
 from math import gcd
 
+from t2.writing import terms_text
+
 
 class Linear:
     """A sum of names with whole coefficients, and a constant."""
@@ -58,14 +60,7 @@ class Linear:
         return self.constant + sum(factor * values[name] for name, factor in self.terms.items())
 
     def text(self) -> str:
-        parts = []
-        for name, factor in self.terms.items():
-            written = name if abs(factor) == 1 else f"{abs(factor)} * {name}"
-            parts.append(("- " if factor < 0 else "+ ") + written)
-        if self.constant or not parts:
-            parts.append(f"{'-' if self.constant < 0 else '+'} {abs(self.constant)}")
-        joined = " ".join(parts)
-        return joined[2:] if joined.startswith("+ ") else "-" + joined[2:]
+        return terms_text([*((factor, name) for name, factor in self.terms.items()), (self.constant, "")])
 
 
 def number(value: int) -> Linear:

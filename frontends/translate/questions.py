@@ -6,7 +6,7 @@ from dataclasses import dataclass
 
 from . import claims
 from . import formula as formulas
-from .formula import FALSE, Formula
+from .formula import FALSE, Tree
 from .graph import STOPS, Place
 from .pipeline import Options, Result, Wanted
 from .refusal import WrongWords
@@ -14,15 +14,13 @@ from .scope import EnumConstant
 from .stutter import joinable
 from .writing import Written, base_name
 
-UNIVERSAL = re.compile(r"\[A[XFGUWRM]\]")
-
 
 @dataclass
 class Question:
     text: str
     kind: str
     line: int | None = None
-    formula: Formula | None = None
+    formula: Tree | None = None
 
 
 def understood(text: str) -> Question:
@@ -60,12 +58,12 @@ def wanted_of(question: Question | None, options: Options) -> Wanted:
                   every=not joinable(question.formula), universal=letters in ("A", ""))
 
 
-def eventual(formula: Formula) -> bool:
+def eventual(formula: Tree) -> bool:
     """Whether it says only that each run comes to one of some places."""
-    return formula.kind == "AF" and only_places(formula.parts[0])
+    return formula.word == "AF" and only_places(formula.parts[0])
 
 
-def only_places(formula: Formula) -> bool:
+def only_places(formula: Tree) -> bool:
     return formula.kind == "at" or (formula.kind in ("or", "and") and all(only_places(part) for part in formula.parts))
 
 
@@ -124,7 +122,7 @@ class Asked:
             rows.append({**self.formula_row(question, formula, passed + ["error"]), "given": "assert"})
         return rows
 
-    def formula_row(self, question: Question, formula: Formula, passed: list[str]) -> dict:
+    def formula_row(self, question: Question, formula: Tree, passed: list[str]) -> dict:
         stops = formulas.any_of(*(formulas.at(kind) for kind in passed))
         passing = formulas.passing(formula, stops)
         return self.row(question.text, ["--ctl", formulas.text(self.behind_start(passing))], formulas.text(passing), passes=passed, notes=self.notes(question))
@@ -135,25 +133,25 @@ class Asked:
         slots = [self.result.translator.slots[names[one]] for one in dict.fromkeys(formulas.names_of(question.formula)) if one in names]
         return [f"{slot.c} is a local of {slot.function}, declared in line {slot.line}: before that it may have any value" for slot in slots if slot.function]
 
-    def behind_start(self, formula: Formula) -> Formula:
+    def behind_start(self, formula: Tree) -> Tree:
         """The formula at the states after the edge that sets the globals."""
-        if formula.kind == "AU" and formula.parts[0] == formulas.TRUE and only_places(formula.parts[1]):
+        if formula.word == "AU" and formula.parts[0] == formulas.TRUE and only_places(formula.parts[1]):
             return formula
-        if formula.kind == "AW" and formula.parts[1] == FALSE and "E" not in formulas.letters(formula):
-            return Formula("AW", (formulas.any_of(formulas.at("start"), formula.parts[0]), FALSE))
-        return Formula("AX", (formula,))
+        if formula.word == "AW" and formula.parts[1] == FALSE and "E" not in formulas.letters(formula):
+            return formulas.operator("AW", formulas.any_of(formulas.at("start"), formula.parts[0]), FALSE)
+        return formulas.operator("AX", formula)
 
-    def translated(self, formula: Formula) -> Formula:
-        if formula.kind == "at":
-            labels = self.labels_called(formula.words[0])
-            if not labels and (formula.words[0] in STOPS or self.is_there(formula.words[0])):
-                return FALSE
-            if not labels:
-                raise WrongWords(f"at({formula.words[0]}): no label and no statement is called so")
-            return formulas.any_of(*(formulas.at(label) for label in labels))
-        if formula.kind == "compare":
-            return Formula("compare", (), tuple(self.name(word) for word in formula.words))
-        return Formula(formula.kind, tuple(self.translated(part) for part in formula.parts), formula.words)
+    def translated(self, formula: Tree) -> Tree:
+        """The formula in the names and labels of the text."""
+        return formulas.changed(formula, lambda part: self.place_named(part.word) if part.kind == "at" else self.name(part.word) if part.kind == "name" else None)
+
+    def place_named(self, name: str) -> Tree:
+        labels = self.labels_called(name)
+        if not labels and (name in STOPS or self.is_there(name)):
+            return FALSE
+        if not labels:
+            raise WrongWords(f"at({name}): no label and no statement is called so")
+        return formulas.any_of(*(formulas.at(label) for label in labels))
 
     def labels_called(self, name: str) -> list[str]:
         """The text's labels for a name: those of a C label or of `f_LINE`, else those of a stop, else the label itself."""
@@ -163,21 +161,20 @@ class Asked:
             labels = [of[place] for place in self.places if place.kind == name]
         return labels or [label for label in of.values() if label == name]
 
-    def name(self, word: str) -> str:
-        if not re.match(r"[A-Za-z_]", word):
-            return word
+    def name(self, word: str) -> Tree:
         names = text_names(self.result)
         if word in names:
             constant = self.result.translator.slots[names[word]].constant
-            return names[word] if constant is None else written_number(constant)
+            return Tree("name", names[word]) if constant is None else number(constant)
         meaning = self.result.translator.scope.find(word)
         if isinstance(meaning, EnumConstant):
-            return written_number(meaning.value)
+            return number(meaning.value)
         raise WrongWords(f"the formula speaks of {word}, which is no variable of the program, or of more than one")
 
 
-def written_number(value: int) -> str:
-    return str(value) if value >= 0 else f"({value})"
+def number(value: int) -> Tree:
+    size = Tree("number", str(abs(value)), (), abs(value))
+    return size if value >= 0 else Tree("minus", "", (size,))
 
 
 def text_names(result: Result) -> dict[str, str]:
@@ -189,6 +186,6 @@ def text_names(result: Result) -> dict[str, str]:
     return names
 
 
-def speaks_of_time(formula: Formula) -> bool:
-    return formula.kind in ("AU", "AX", "EU", "EW") or any(speaks_of_time(part) for part in formula.parts)
+def speaks_of_time(formula: Tree) -> bool:
+    return formula.word in ("AU", "AX", "EU", "EW") or any(speaks_of_time(part) for part in formula.parts)
 

@@ -3,9 +3,10 @@ from __future__ import annotations
 
 from dataclasses import dataclass
 
+from t2.tokens import NO_NAMES
+
 from .kinds import Array, Floating, Pointer, Record, Void, Whole
 
-RESERVED = {"START", "FROM", "TO", "AT", "CUTPOINT", "ERROR", "SHADOW", "PROCESS", "assume", "nondet", "true", "false", "at", "term"}
 SYMBOLS = ("INT_MIN", "INT_MAX", "UINT_MAX", "LONG_MIN", "LONG_MAX", "ULONG_MAX")
 
 
@@ -71,7 +72,7 @@ class Names:
     """Gives each object of C one name in the text that no other has."""
 
     def __init__(self):
-        self.taken: set[str] = set(RESERVED) | set(SYMBOLS)
+        self.taken: set[str] = {*NO_NAMES, *SYMBOLS}
         self.copies: dict[tuple[str | None, str], int] = {}
 
     def free(self, wanted: str) -> str:

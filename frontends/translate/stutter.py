@@ -6,24 +6,23 @@ each of its operators is, at such a place, what it is at the places one step fur
 T true, F false, A as at all places one step further, E as at some of them, N none of these."""
 from __future__ import annotations
 
-from .formula import FALSE, Formula, normal
+from .formula import FALSE, Tree, normal
 
 
-def joinable(formula: Formula) -> bool:
+def joinable(formula: Tree) -> bool:
     """Whether each operator in the formula has a class."""
     return all_classed(normal(formula))
 
 
-def all_classed(formula: Formula) -> bool:
-    operator = len(formula.kind) == 2 and formula.kind[0] in "AE"
-    return not (operator and class_of(formula) == "N") and all(all_classed(part) for part in formula.parts)
+def all_classed(formula: Tree) -> bool:
+    return not any(part.kind in ("next", "fix") and class_of(part) == "N" for part in formula)
 
 
-def class_of(formula: Formula) -> str:
+def class_of(formula: Tree) -> str:
     """Of a formula in normal form."""
     kind = formula.kind
-    if kind in ("true", "false"):
-        return "T" if kind == "true" else "F"
+    if kind == "truth":
+        return "T" if formula.word == "true" else "F"
     if kind == "at":
         return "F"
     if kind == "not":
@@ -32,12 +31,12 @@ def class_of(formula: Formula) -> str:
         return "A"
     if kind in ("and", "or"):
         return of_parts({class_of(part) for part in formula.parts}, kind == "and")
-    if kind[0] not in "AE" or kind[1] == "X" or len(kind) != 2:
+    if kind != "fix":
         return "N"
     one, other = formula.parts
-    if kind[1] in "RM":
-        one, other = other, Formula("and", (one, other))
-    return of_until(kind[0], class_of(one), class_of(other), other == FALSE)
+    if formula.word[1] in "RM":
+        one, other = other, Tree("and", "", (one, other))
+    return of_until(formula.word[0], class_of(one), class_of(other), other == FALSE)
 
 
 def of_parts(classes: set[str], both: bool) -> str:

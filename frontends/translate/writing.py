@@ -1,13 +1,15 @@
 """The text of a graph, and the table that goes with it."""
 from __future__ import annotations
 
+from t2.limits import CASES, DRAWS, EDGES, LOCATIONS, VARIABLES, WIDE
+from t2.writing import edge_text, program_text
+
 from .graph import Draw, Edge, Graph, Place
 from .linear import Atom, Linear, variable
 from .refusal import Refused
 from .scope import Names
 
-LIMITS = {"variables": 512, "locations": 1024, "edges": 4096, "draws on one edge": 64, "cases": 8192}
-WIDE = 2 ** 62
+LIMITS = {"variables": VARIABLES, "locations": LOCATIONS, "edges": EDGES, "draws on one edge": DRAWS, "cases": CASES}
 
 
 class Labels:
@@ -145,7 +147,7 @@ class Written:
         writer = EdgeWriter(edge)
         commands = writer.run()
         source, target = self.labels.of[edge.source], self.labels.of[edge.target]
-        self.blocks.append("\n".join([f"FROM: {source};"] + [f"  {command}" for command in commands] + [f"TO: {target};"]))
+        self.blocks.append(edge_text(source, commands, target))
         for name in [*edge.updates, *writer.reset, *sorted(edge.reads())]:
             self.names[name] = None
         numbers = {draw.name: at for at, draw in enumerate(writer.draws)}
@@ -188,8 +190,8 @@ class Written:
 
     def text(self) -> str:
         start = self.labels.of[self.graph.start]
-        unreached = [f"FROM: {kind};\n  assume(false);\nTO: {kind};" for kind in self.never]
-        return f"// {self.title}\nSTART: {start};\n" + "\n".join(self.blocks + unreached) + "\n"
+        unreached = [edge_text(kind, ["assume(false);"], kind) for kind in self.never]
+        return program_text([self.title], start, self.blocks + unreached)
 
     def locations(self) -> dict[str, dict]:
         rows = {}

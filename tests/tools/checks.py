@@ -10,7 +10,7 @@ from pathlib import Path
 TOP = Path(__file__).resolve().parents[2]
 EXAMPLES = TOP / "examples"
 sys.dont_write_bytecode = True
-sys.path.insert(0, str(EXAMPLES))
+sys.path.insert(0, str(TOP / "python"))
 
 
 class Checks:

@@ -1,4 +1,4 @@
-"""A checker of certificates for tests alone: whether the multipliers refute what they are to refute, with the rows of examples/t2. Where the
+"""A checker of certificates for tests alone: whether the multipliers refute what they are to refute, with the rows of python/t2. Where the
 program accepts a certificate and this does not, the rows or the numbers of the cases are others than the program's."""
 from t2.certificates import Certificate, Node, Piece, at_location, nodes_of
 from t2.linear import Case, Row, Terms, plus, raised, scaled

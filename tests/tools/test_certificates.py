@@ -1,9 +1,10 @@
 """Certificates of both versions, and what comes of texts that are none."""
 from checks import EXAMPLES, Checks, call
 from t2.certificates import nodes_of, read_certificate
-from t2.formulas import negation, never_at, normal, read_formula
+from t2.formulas import TERM, negation, never_at, normal, read_formula
 from t2.linear import cases_of
-from t2.program import parted, read_program
+from t2.program import read_program
+from t2.texts import parted
 from t2.tokens import Fault
 
 HALF = "START: 0;\nFROM: 0; y := nondet(); assume(2 * y <= x); assume(x <= 2 * y + 1); TO: 1;\n"
@@ -89,7 +90,7 @@ def at_fault(checks: Checks) -> None:
         fault = fault_of(text, certificate.replace(*change, 1))
         checks.that(f"{change} is at fault", said in fault, fault)
     checks.that("an answer without a certificate", "the first line is `Unknown rank`" in fault_of(text, "Unknown rank\ncases 0\n"), "")
-    fault = fault_of(text, certificate, ("term",))
+    fault = fault_of(text, certificate, TERM)
     checks.that("a formula of another kind", "wants a node of the kind `term`" in fault, fault)
 
 

@@ -1,5 +1,5 @@
 """Runs of programs and formulas that are made by chance: each step is taken again by the other interpreter of this folder, the run is the same
-with the formula and without it, and the multipliers of the certificate fit the rows of examples/t2. Whether a program is answered is not tested
+with the formula and without it, and the multipliers of the certificate fit the rows of python/t2. Whether a program is answered is not tested
 here."""
 import random
 import re
@@ -82,7 +82,7 @@ class Made:
 
 
 def unmet(text: str, formula: str, out: str) -> list[str]:
-    """The obligations of a certificate that are not met by the rows of examples/t2."""
+    """The obligations of a certificate that are not met by the rows of python/t2."""
     program = read_program(text)
     tree, cases = read_formula(formula, program), cases_of(program)
     return Obligations(program, cases, read_certificate(out, program, cases, normal(tree), negation(tree))).unmet

@@ -28,7 +28,7 @@ def numbers(checks: Checks) -> None:
     checks.same("edges", [(edge.source, edge.target, edge.line) for edge in program.edges], [(1, 2, 1), (2, 0, 2)])
     checks.same("draws", [edge.draws for edge in program.edges], [0, 1])
     checks.same("marks are kept", program.edges[1].marks, ['0, "demo.c:3"', "1"])
-    checks.same("commands", program.edges[1].texts(program.variables), ["y.1 := nondet() + z"])
+    checks.same("commands", program.edges[1].texts(), ["y.1 := nondet() + z"])
     checks.same("labels by their bytes", read_program("START: 0; FROM: 0; TO: 00;").labels, ["0", "00"])
     checks.same("the heading ends the text", read_program("START: 0;\nCERTIFICATE:\n?").labels, ["0"])
     checks.same("with a CR", read_program("START: 0;\r\nCERTIFICATE:\r\n?").labels, ["0"])
@@ -68,10 +68,10 @@ def formulas(checks: Checks) -> None:
             ("[EG](at(L1)) || (x < 1 || y < 1)", "[EG](at(L1)) || (x < 1 || y < 1)", "[AM](!at(L1))(true) && (x >= 1 && y >= 1)"),
             ("(x + 1) * 2 <= -y", "(x + 1) * 2 <= -y", "(x + 1) * 2 > -y")]:
         tree = read_formula(text, program)
-        checks.same(f"normal form of {text}", formula_text(normal(tree), program), spelled)
-        checks.same(f"negation of {text}", formula_text(negation(tree), program), denied)
+        checks.same(f"normal form of {text}", formula_text(normal(tree)), spelled)
+        checks.same(f"negation of {text}", formula_text(negation(tree)), denied)
     whole = "[AU](at(0) && !term)([EX](x < 1))"
-    counted = [formula_text(part, program) for part in subformulas(normal(read_formula(whole, program)))]
+    counted = [formula_text(part) for part in subformulas(normal(read_formula(whole, program)))]
     checks.same("numbers of subformulas", counted, [whole, "at(0) && !term", "at(0)", "!term", "[EX](x < 1)", "x < 1"])
     for text, place in [
             ("x >", "column 4"),

@@ -29,7 +29,7 @@ fn leads_into(cover: &Cover, wanted: u32, multipliers: &[i64]) -> bool {
     }
 }
 
-/// Whether this case is taken, with so many refutations.
+/// Whether this case is taken, with `count` refutations.
 fn takes(proof: &Proof, wanted: u32, count: usize) -> bool {
     match proof {
         Proof::Covered(_) => false,
@@ -46,7 +46,7 @@ fn takes(proof: &Proof, wanted: u32, count: usize) -> bool {
     }
 }
 
-/// Whether the piece has this location and so many rows and ranks.
+/// Whether the piece has this location, `rows` rows and `ranks` ranks.
 fn is_at(piece: &Marked, location: u32, rows: usize, ranks: usize) -> bool {
     piece.location() == location && piece.rows().len() == rows && piece.ranks().len() == ranks
 }

@@ -14,7 +14,7 @@ fn piece(alloc: Global, location: u32, columns: u32) -> Result<Marked, Fail>
     Ok(piece)
 }
 
-/// So many pieces, in turn at the locations 5, 0 and 3; each has as many columns as pieces stand before it.
+/// `count` pieces, in turn at the locations 5, 0 and 3. Each has as many columns as pieces stand before it.
 fn pieces(alloc: Global, count: u32) -> Result<Pieces, Fail> {
     let mut list = Vec::new(alloc);
     for place in 0..count {
@@ -72,7 +72,7 @@ fn rows(alloc: Global) -> Result<Vec<Row>, Fail> {
     Ok(rows)
 }
 
-/// The piece of two rows and a rank over so many columns, if there is one.
+/// The piece of two rows and a rank over `columns` columns, if there is one.
 fn ranked(alloc: Global, columns: u32) -> Result<Option<Marked>, Fail>
     requires { columns < 2 ^ 32 - 1 }
 {

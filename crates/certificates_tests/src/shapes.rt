@@ -53,7 +53,7 @@ const fn whole(location: u32) -> Part<'static> {
     }
 }
 
-/// The node of a countdown, by what is told of its first piece and the proof of its first step.
+/// The node of a countdown, by what is said of its first piece and the proof of its first step.
 #[derive(Clone, Copy)]
 struct Sketch<'a> {
     location: u32,
@@ -242,7 +242,7 @@ fn other_climbers_do_not(rt: HostRuntime) -> Result<(), Fail> {
     Ok(())
 }
 
-/// A root without pieces over two children, each of so many ranks.
+/// A root without pieces over two children. `first` and `second` are their numbers of ranks.
 fn three_nodes(alloc: Global, first: u32, second: u32) -> Result<Node, Fail> {
     let first = leaf(alloc, &[], first, Vec::new(alloc))?;
     let second = leaf(alloc, &[], second, Vec::new(alloc))?;
@@ -297,7 +297,7 @@ fn kept_proofs(alloc: Global, fall: u32) -> Result<Vec<Proof>, Fail> {
     Ok(proofs)
 }
 
-/// The nodes of an invariant that keeps the third location away, with this fall in a step and so many ranks in a child.
+/// The nodes of an invariant that keeps the third location away, with this fall in a step and `ranks` ranks in a child.
 fn keeping(alloc: Global, fall: u32, ranks: u32) -> Result<Node, Fail> {
     let first = elsewhere(alloc, ranks)?;
     let second = leaf(alloc, &[], 0, Vec::new(alloc))?;

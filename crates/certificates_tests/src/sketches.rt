@@ -115,7 +115,7 @@ pub(crate) fn fork(
     })
 }
 
-/// That the start lies in this piece.
+/// The verdict that the start lies in this piece.
 pub(crate) fn start(alloc: Global, piece: u32) -> Result<Verdict, Fail> {
     let cover = into(alloc, piece, 0, &[])?;
     Ok(Verdict::Proved(cover))

@@ -17,14 +17,14 @@ pub(crate) enum Wanted {
     Sides(Numbers, u32, u32),
     /// A split at a row. Where it is met no step is possible, and else the case is taken.
     StopOrSide(Numbers, u32),
-    /// No step is possible, by so many covers.
+    /// No step is possible, by this many covers.
     NoStep(usize),
-    /// A tree with so many splits on its longest path, not counting those of covers.
+    /// A tree with this many splits on its longest path, not counting those of covers.
     Depth(u32),
     Hole(&'static [i128]),
-    /// A path of so many splits, of which so many are of the choice itself.
+    /// A path of this many splits, those of the choice itself among them.
     Splits(usize),
-    /// So many rows, of which the solver finds no basis in time.
+    /// A number of rows for which the solver finds no basis in time.
     Solve(usize),
     Wide(u32),
 }

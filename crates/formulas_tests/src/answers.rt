@@ -52,11 +52,11 @@ enum Wanted {
     Open(u32),
     /// The comparison with this number has no rows.
     Wide(u32),
-    /// So many pieces at this location are more than is allowed.
+    /// This location has this many pieces, more than is allowed.
     Pieces(u32, u64),
     /// A question takes more splits than are allowed.
     Splits,
-    /// A system of the search for ranks is not settled by so many bases.
+    /// A system of the search for ranks is not settled by this many bases.
     Ranks(u64),
 }
 
@@ -200,7 +200,7 @@ const ENDLESS: &[Example] = &[
     (DRAWS, "[AX](term)", Wanted::Disproved),
 ];
 
-/// Arguments that are equal, of which the second is a copy of the first.
+/// Arguments that are equal: the second is a copy of the first.
 const EQUAL: &[Example] = &[
     (LOOP, "[AF](x <= 0) && [AF](x <= 0)", Wanted::Proved),
     (LOOP, "[AF](x < 0) || [AF](x < 0)", Wanted::Disproved),

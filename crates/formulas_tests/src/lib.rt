@@ -11,3 +11,5 @@ mod nodes;
 mod programs;
 #[cfg(test)]
 mod regions;
+#[cfg(test)]
+mod widths;

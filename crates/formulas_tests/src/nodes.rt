@@ -34,7 +34,7 @@ const AMPLE: Budget = Budget {
     disjuncts: 256,
 };
 
-/// Whether the part has so many pieces, ranks and proofs.
+/// Whether the part has `pieces` pieces, `ranks` ranks and `proofs` proofs.
 fn is(part: &Part, pieces: usize, ranks: u32, proofs: usize) -> bool {
     let node = &part.node;
     part.region.pieces.len() == pieces
@@ -318,7 +318,7 @@ fn nodes_of_one_argument_are_made(rt: HostRuntime) -> Result<(), Fail> {
     Ok(())
 }
 
-/// Which node of a fixed point is made.
+/// Which node of a fixpoint is made.
 #[derive(Clone, Copy)]
 enum Fixed {
     Until,
@@ -339,7 +339,7 @@ fn two_made(setting: &Setting, which: Fixed) -> Result<Part, Fail>
     }
 }
 
-/// Nodes of fixed points, and how many pieces, ranks and proofs each has.
+/// Nodes of fixpoints, and how many pieces, ranks and proofs each has.
 const FIXED: &[(Fixed, usize, u32, usize)] = &[
     (Fixed::Until, 1, 1, 2),
     (Fixed::Weak, 1, 0, 2),

@@ -12,4 +12,6 @@ mod regions;
 #[cfg(test)]
 mod saying;
 #[cfg(test)]
+mod splits;
+#[cfg(test)]
 mod strategies;

@@ -39,7 +39,7 @@ const COUNTERS: &str =
 /// Each step takes from what is left of the steps, and from a number.
 const SPENDING: &str = "START: 0; FROM: 0; assume(n > 0); n := n - 1; x := x - 1; TO: 0;";
 
-/// Two ways to spend what is left, one of which takes from a number too.
+/// Two ways to spend what is left. One of them takes from a number too.
 const BURNING: &str =
     "START: 0; FROM: 0; assume(f > 0); f := f - 1; h := h - 1; TO: 0; FROM: 0; assume(f > 0); f := f - 1; TO: 0; \
      FROM: 0; assume(f <= 0); TO: 1; FROM: 1; TO: 1;";

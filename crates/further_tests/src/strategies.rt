@@ -13,7 +13,7 @@ const DRAW: &str =
 const CONTROLLER: &str =
     "START: reset; FROM: reset; t := 0; TO: run; FROM: run; t := t + 1; TO: run; FROM: run; assume(t > 10); TO: cool; FROM: cool; assume(t > 0); t := t - 1; TO: cool; FROM: cool; t := t + 1; TO: cool; FROM: cool; assume(t <= 0); TO: reset;";
 
-/// A loop in a loop, each of which may grow.
+/// A loop in a loop. Each of them may grow.
 const NESTED: &str =
     "START: 0; FROM: 0; assume(x > 0); y := nondet(); assume(y > x); TO: 1; FROM: 1; assume(y > 0); y := y + 1; TO: 1; FROM: 1; assume(y > 0); y := y - 1; TO: 1; FROM: 1; assume(y <= 0); x := x - 1; TO: 0; FROM: 1; assume(y <= 0); x := x + 1; TO: 0; FROM: 0; assume(x <= 0); TO: 2; FROM: 2; TO: 2;";
 

@@ -11,13 +11,13 @@ use tv_simplex::SolveFault;
 /// What an attempt is to give.
 #[derive(Drop)]
 enum Wanted {
-    /// A node with so many pieces, ranks and proofs.
+    /// A node with this many pieces, ranks and proofs.
     Node(usize, u32, usize),
     /// The cases that are stuck.
     Stuck(&'static [u32]),
     /// The system of the guards of this case is too wide.
     Width(u32),
-    /// So many bases are too few for the system of this component, round and case.
+    /// The system of this component, round and case, and a number of bases that is too few for it.
     Pivots(u32, u32, u32, u64),
 }
 

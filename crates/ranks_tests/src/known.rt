@@ -33,7 +33,7 @@ const ANYWHERE: &str = "START: 0; FROM: 0; TO: 1; FROM: 1; assume(x > 0); x := x
 /// What is to be given.
 #[derive(Drop)]
 enum Wanted {
-    /// A node with so many pieces, ranks and proofs.
+    /// A node with this many pieces, ranks and proofs.
     Node(usize, u32, usize),
     /// The cases that are stuck.
     Stuck(&'static [u32]),
@@ -43,9 +43,9 @@ enum Wanted {
     Wide(u32),
     /// A cover has no splits left.
     Splits,
-    /// So many bases are too few for the system of this set and case.
+    /// The system of this set and case, and a number of bases that is too few for it.
     Later(&'static [u32], u32, u64),
-    /// So many bases are too few for the system of so many rows.
+    /// The system of this many rows, and a number of bases that is too few for it.
     Rows(usize, u64),
 }
 

@@ -13,3 +13,5 @@ mod known;
 mod programs;
 #[cfg(test)]
 mod shown;
+#[cfg(test)]
+mod splits;

@@ -73,7 +73,7 @@ fn with_cr(alloc: Global, text: &str) -> Result<Vec<u8>, AllocError> {
     Ok(bytes)
 }
 
-/// The program in the text, of which the lines end with CR and LF.
+/// The program in the text, whose lines end with CR and LF.
 pub(crate) fn program_of(alloc: Global, text: &str) -> Result<Program, Fail> {
     let bytes = with_cr(alloc, text)?;
     let bytes: &[u8] = &bytes;

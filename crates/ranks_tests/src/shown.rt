@@ -90,7 +90,7 @@ fn known_rows_show_that_a_case_is_never_taken(rt: HostRuntime) -> Result<(), Fai
     Ok(())
 }
 
-/// Whether the multipliers of the guards stand after so many zeros.
+/// Whether the multipliers of the guards stand after `many` zeros.
 fn is_padded(many: usize, old: &[i64], new: &[i64]) -> bool {
     if new.len() != old.len().saturating_add(many) {
         return false;

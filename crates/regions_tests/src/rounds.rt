@@ -14,7 +14,7 @@ use tv_reader::read_program;
 use tv_region::{RegionFault, fits};
 use tv_rounds::{FixedPoint, RoundFault, Rounds, has_no_draws, rounds};
 
-/// A fixed point over the cases of a program text of one variable and one location, and the last of its rounds that is asked for.
+/// A fixpoint over the cases of a program text of one variable and one location, and the last of its rounds that is asked for.
 #[derive(Clone, Copy)]
 struct Asked {
     text: &'static str,
@@ -38,7 +38,7 @@ fn cases_of(alloc: Global, text: &str) -> Result<Cases, Fail> {
     Ok(cases(alloc, &program)?)
 }
 
-/// The rounds of a fixed point with these sides.
+/// The rounds of a fixpoint with these sides.
 fn rounds_of(
     alloc: Global,
     asked: &Asked,
@@ -76,7 +76,7 @@ fn answered(
     rounds_of(alloc, asked, &hold, &end, budget)
 }
 
-/// Whether the rounds are settled at this one, with so many layers, pieces, and of the values from -9 to 9 these alone.
+/// Whether the rounds are settled at this one, with `added` layers, `pieces` pieces, and of the values from -9 to 9 these alone.
 fn is_settled(
     found: &Result<Rounds, RoundFault>,
     round: u32,
@@ -92,7 +92,7 @@ fn is_settled(
     }
 }
 
-/// Whether the rounds are open, with so many layers, pieces, and of the values from -9 to 9 these alone.
+/// Whether the rounds are open, with `added` layers, `pieces` pieces, and of the values from -9 to 9 these alone.
 fn is_open(
     found: &Result<Rounds, RoundFault>,
     added: usize,
@@ -208,7 +208,7 @@ fn rounds_that_go_on_are_open(rt: HostRuntime) -> Result<(), Fail> {
     Ok(())
 }
 
-/// Whether so many pieces at location 0 were refused.
+/// Whether `pieces` pieces at location 0 were refused.
 fn are_too_many(found: &Result<Rounds, RoundFault>, pieces: u64) -> bool {
     match found {
         Err(RoundFault::Region { fault }) => match fault {

@@ -120,7 +120,7 @@ const TRIED: &[i128] = &[
     -9, -8, -7, -6, -5, -4, -3, -2, -1, 0, 1, 2, 3, 4, 5, 6, 7, 8, 9,
 ];
 
-/// Whether the region has so many pieces, and of the values from -9 to 9 these alone.
+/// Whether the region has `pieces` pieces, and of the values from -9 to 9 these alone.
 pub(crate) fn is(region: &Region, pieces: usize, values: &[i128]) -> bool {
     for x in TRIED {
         if has(region, *x) != values.contains(x) {
@@ -130,7 +130,7 @@ pub(crate) fn is(region: &Region, pieces: usize, values: &[i128]) -> bool {
     region.pieces.len() == pieces
 }
 
-/// Whether so many pieces were refused.
+/// Whether `pieces` pieces were refused.
 pub(crate) fn refused(made: &Result<Region, RegionFault>, pieces: u64) -> bool {
     match made {
         Err(RegionFault::Disjuncts { location, count }) => *location == 0 && *count == pieces,

@@ -8,7 +8,7 @@ use tv_linear::Region;
 use tv_program::{Edge, Names, Program};
 use tv_region::{before_any, before_every, fits};
 
-/// A program of one variable and one location, whose one edge draws so many numbers and has no command.
+/// A program of one variable and one location, whose one edge draws `draws` numbers and has no command.
 fn idle(alloc: Global, draws: u32) -> Result<Program, Fail>
     requires { draws ≤ 2 }
 {

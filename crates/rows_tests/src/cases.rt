@@ -127,7 +127,7 @@ fn begins_with(lists: &[Vec<Row>], coefficient: i64, constant: i128) -> bool {
     }
 }
 
-/// Whether the comparison of `x` with 5 has so many lists, of which this row is the first.
+/// Whether the comparison of `x` with 5 has `count` lists, and the first of them is this row alone.
 fn has_lists(
     alloc: Global,
     relation: Relation,

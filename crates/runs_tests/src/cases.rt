@@ -235,7 +235,7 @@ const LIMITS: &[Limit] = &[
     ),
 ];
 
-/// Whether there are so many cases, or none for this fault.
+/// Whether there are as many cases as wanted, or none because of the wanted fault.
 fn are_so_many(found: &Result<Cases, CaseFault>, wanted: &Result<usize, CaseFault>) -> bool {
     match (found, wanted) {
         (Ok(cases), Ok(count)) => cases.list().len() == *count,
@@ -244,7 +244,7 @@ fn are_so_many(found: &Result<Cases, CaseFault>, wanted: &Result<usize, CaseFaul
     }
 }
 
-/// Whether the cases are so many, or are refused so.
+/// Whether the cases are as many as the limit wants, or are refused as it wants.
 fn is_kept(alloc: Global, limit: &Limit) -> Result<bool, AllocError> {
     let (times, end, wanted) = limit;
     let text = repeated(alloc, "START: 0; FROM: 0; ", "assume(x != 0);", *times, end)?;

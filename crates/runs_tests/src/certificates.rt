@@ -22,15 +22,15 @@ pub(crate) const ENDED: &str = "end\n";
 const ENDLESS: &str =
     "T2CERT 1\ndisproved\nnode noterm 2 0\npiece 0 go 1\nrow -1 1\npiece 1 go 1\nrow -1 1\ntake 0 0 0\nby 1 1\ntake 1 0 0\nby 1 1\nby 1 1\nat 0 1\nend\n";
 
-/// That x comes below 0 on every run of the loop, which ends at 0.
+/// A certificate that x comes below 0 on every run of the loop, which ends at 0.
 const BELOW: &str =
     "T2CERT 1\nproved\nnode fix 2 1\npiece 0 done 1\nrow 1 1\npiece 0 go 1\nrow -1 0\nrank 1 0\nnode atom 1 0\npiece 0 go 0\ninto 0 0\nnode atom 1 0\npiece 0 go 1\nrow 1 1\ninto 0 0\nby 1 1\ninto 0 0\nby 1 1\ninto 0 0\ntake 0 0 0\nby 1 1\ninto 1 1\nby 0 1 1\nby 0 0 1\nby 1 0 1\nsplit 1 1\ninto 0 0\nby 1 1\ninto 1 0\nby 1 1\nend\n";
 
-/// That x comes to 0 or below on every run of the loop.
+/// A certificate that x comes to 0 or below on every run of the loop.
 const DOWN: &str =
     "T2CERT 1\nproved\nnode fix 2 1\npiece 0 done 1\nrow 1 0\npiece 0 go 1\nrow -1 1\nrank 1 0\nnode atom 1 0\npiece 0 go 0\ninto 0 0\nnode atom 1 0\npiece 0 go 1\nrow 1 0\ninto 0 0\nby 1 1\ninto 0 0\nby 1 1\ninto 0 0\ntake 0 0 0\nby 1 1\nsplit 1 -1\ninto 0 0\nby 0 0 1 1\ninto 1 1\nby 0 0 1 1\nby 0 0 0 1\nby 1 0 0 1\nsplit 1 0\ninto 0 0\nby 1 1\ninto 1 0\nby 1 1\nend\n";
 
-/// That x never comes below 0 on some run of the loop.
+/// A certificate that x never comes below 0 on some run of the loop.
 const NEVER_BELOW: &str =
     "T2CERT 1\ndisproved\nnode fix 1 0\npiece 0 go 1\nrow -1 0\nnode atom 0 0\nnode atom 1 0\npiece 0 go 1\nrow -1 0\ninto 0 0\nby 1 1\ninto 0 0\nby 1 1\nsplit 1 0\nnostep\nempty 0 1 1\ntake 0 0 0\nby 0 1 1\nby 0 1 1\nat 0 0\nend\n";
 

@@ -42,10 +42,10 @@ fn every_run_ends(rt: HostRuntime) {
     expect_said(&rt, rt.alloc(), ENDING);
 }
 
-/// An idle loop after a guard that no whole number meets: one that is odd and even is found by its rounded bounds.
+/// An idle loop after a guard that no integer meets: one that is odd and even is found by its rounded bounds.
 const HALF: &str = "START: 0; FROM: 0; assume(2*x == 1); TO: 1; FROM: 1; TO: 1;";
 
-/// Two guards that no whole numbers meet, which no split shows.
+/// Two guards that no integers meet, which no split shows.
 const PARITY: &str =
     "START: 0; FROM: 0; assume(2*x == y); assume(2*z + 1 == y); TO: 1; FROM: 1; TO: 1;";
 
@@ -84,11 +84,35 @@ fn ranks_are_found_where_guards_split(rt: HostRuntime) {
     expect_shown(&rt, rt.alloc(), IN_PARTS);
 }
 
-/// Programs of which it is not known, and why.
+/// y falls, and x falls once y is below 0; z before both.
+const THREE_PHASES: &str =
+    "START: 0; FROM: 0; assume(x > 0); x := x + y; y := y + z; z := z - 1; TO: 0;";
+
+/// Turns towards 0 with each step.
+const TURNING: &str =
+    "START: 0; FROM: 0; assume(i < 0); i := -i - 1; TO: 0; FROM: 0; assume(i > 0); i := -i + 1; TO: 0;";
+
+const FIVE_PHASES: &str =
+    "START: 0; FROM: 0; assume(x > 0); x := x + y; y := y + z; z := z + w; w := w + v; v := v - 1; TO: 0;";
+
+/// Programs all of whose runs are shown to end by ranks of places that are split by rows.
+const IN_PHASES: &[Asked] = &[
+    (TERMINATION, &[FALLING_SUM], PROVED, Status::Proved),
+    (TERMINATION, &[THREE_PHASES], PROVED, Status::Proved),
+    (TERMINATION, &[TURNING], PROVED, Status::Proved),
+];
+
+#[test]
+fn places_are_split_where_no_term_falls(rt: HostRuntime) {
+    expect_said(&rt, rt.alloc(), IN_PHASES);
+    expect_shown(&rt, rt.alloc(), IN_PHASES);
+}
+
+/// Programs for which it is not known whether all runs end, and why.
 const STUCK: &[Asked] = &[
     (
         TERMINATION,
-        &[FALLING_SUM],
+        &[FIVE_PHASES],
         "Unknown rank\ncases 0\n",
         Status::Unknown,
     ),

@@ -146,7 +146,7 @@ fn faults_of_formulas_are_told(rt: HostRuntime) {
     expect_said(&rt, rt.alloc(), FORMULAS);
 }
 
-/// A word of so many blanks.
+/// A word of `count` blanks.
 fn blanks(alloc: Global, count: u32) -> Result<String, AllocError> {
     let mut word = String::new(alloc);
     for _ in 0..count {
@@ -155,7 +155,7 @@ fn blanks(alloc: Global, count: u32) -> Result<String, AllocError> {
     Ok(word)
 }
 
-/// A formula of so many blanks over the countdown: whether this line is written.
+/// A formula of `count` blanks over the countdown: whether this line is written.
 fn says_of_blanks(alloc: Global, count: u32, line: &str) -> Result<bool, AllocError> {
     let formula = blanks(alloc, count)?;
     let words = ["--check", "--ctl", formula.as_str()];
@@ -227,7 +227,7 @@ const NO_START: &str = "Refused text no start\n";
 
 const TOO_LONG: &str = "Refused text too long\n";
 
-/// Whether so many blanks are answered with this line.
+/// Whether `length` blanks are answered with this line.
 fn says_of_text(
     alloc: Global,
     words: &[&str],

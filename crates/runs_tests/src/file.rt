@@ -50,7 +50,7 @@ const PARTS: [(&str, u32); 8] = [
     ("empty\ninto 0 0\nend\n", 1),
 ];
 
-/// Puts the part at the end of the text so many times.
+/// Puts the part at the end of the text `times` times.
 fn push_times(text: &mut Vec<u8>, part: &str, times: u32) -> Result<(), AllocError> {
     for _ in 0..times {
         text.extend_from_slice(part.as_bytes())?;

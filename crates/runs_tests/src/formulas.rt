@@ -323,7 +323,7 @@ fn pieces_that_nothing_enters_are_left_out(rt: HostRuntime) {
     assert!(rt; has_what_is_entered(rt.alloc()) == Ok(true));
 }
 
-/// Rounds that are not settled, and a case with a draw over which going back is not exact.
+/// Rounds that are not settled, a case with a draw over which going back is not exact, and a comparison that is too wide.
 const LEFT_OPEN: &[Asked] = &[
     (
         &["--ctl", "[AF](x <= 0)"],
@@ -335,6 +335,12 @@ const LEFT_OPEN: &[Asked] = &[
         &["--ctl", "[EX](true)"],
         &[HALF],
         "Unknown template\ndraw case 0\n",
+        Status::Unknown,
+    ),
+    (
+        &["--ctl", "x + 4611686018427387903 + 5 >= 0"],
+        &[TURNING],
+        "Unknown width\ncomposed column 2\n",
         Status::Unknown,
     ),
 ];

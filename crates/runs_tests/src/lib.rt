@@ -34,4 +34,6 @@ mod safety;
 #[cfg(test)]
 mod texts;
 #[cfg(test)]
+mod traces;
+#[cfg(test)]
 mod words;

@@ -21,7 +21,7 @@ fn status_with(line: &str) -> Status {
     }
 }
 
-/// A front, a part so many times, an end, and the line.
+/// A front, a part and how many times it stands, an end, and the line.
 type Limit = (&'static str, &'static str, u32, &'static str, &'static str);
 
 /// At each limit the certificate is missing, past it the text is refused.

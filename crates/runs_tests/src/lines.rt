@@ -125,7 +125,7 @@ fn lines_come_before_obligations(rt: HostRuntime) {
     }
 }
 
-/// Whether the line after so many lines of the certificate of the countdown is reported.
+/// Whether line `missing` is reported after `count` lines of the certificate of the countdown.
 fn is_missing(alloc: Global, count: u32, missing: u32) -> Result<bool, AllocError> {
     let text = with_lines(alloc, COUNTDOWN, UNENDED, count)?;
     let written = format!(in alloc; "Certificate refused line {missing}\n")?;
@@ -149,19 +149,19 @@ fn the_first_missing_line_is_told(rt: HostRuntime) {
     }
 }
 
-/// So many splits at the root.
+/// Puts `times` splits at the root.
 fn push_splits(alloc: Global, text: &mut Vec<u8>, times: u32) -> Result<(), AllocError> {
     let splits = repeated(alloc, "", "split 1 0\n", times, "into 0 0\n")?;
     text.extend_from_slice(&splits)
 }
 
-/// The other side of each of so many splits, and the end.
+/// Puts the other side of each of `times` splits, and the end.
 fn push_sides(alloc: Global, text: &mut Vec<u8>, times: u32) -> Result<(), AllocError> {
     let sides = repeated(alloc, "", "into 0 0\n", times, ENDED)?;
     text.extend_from_slice(&sides)
 }
 
-/// The countdown with so many splits at the root, each with both of its sides.
+/// The countdown with `times` splits at the root, each with both of its sides.
 fn with_splits(alloc: Global, times: u32) -> Result<Vec<u8>, AllocError> {
     let mut text = with_lines(alloc, COUNTDOWN, UNENDED, 16)?;
     push_splits(alloc, &mut text, times)?;
@@ -169,7 +169,7 @@ fn with_splits(alloc: Global, times: u32) -> Result<Vec<u8>, AllocError> {
     Ok(text)
 }
 
-/// Whether this is written of so many splits.
+/// Whether this is written of `times` splits.
 fn says_of_splits(
     alloc: Global,
     times: u32,

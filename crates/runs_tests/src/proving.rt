@@ -59,6 +59,12 @@ pub(crate) const SETTLED: &[Asked] = &[
         Status::Disproved,
     ),
     (SAFETY_2, &[FAR], "Disproved\nx = 0\n", Status::Disproved),
+    (
+        SAFETY_2,
+        &[DOUBLED],
+        "Disproved\nx = 1\n",
+        Status::Disproved,
+    ),
 ];
 
 /// The verdict is written, and the certificate that is written after it is accepted.
@@ -82,12 +88,6 @@ const OPEN: &[Asked] = &[
         "Unknown disjuncts\nlocation 2 count 2\n",
         Status::Unknown,
     ),
-    (
-        SAFETY_2,
-        &[DOUBLED],
-        "Unknown width\ncomposed column 1\n",
-        Status::Unknown,
-    ),
 ];
 
 #[test]
@@ -109,7 +109,7 @@ fn candidate(alloc: Global, placed: &Placed) -> Result<Candidate, Fail> {
     })
 }
 
-/// Puts the row at the end so many times.
+/// Puts the row at the end `times` times.
 fn push_times(
     alloc: Global,
     candidates: &mut Vec<Candidate>,
@@ -122,7 +122,7 @@ fn push_times(
     Ok(())
 }
 
-/// These rows, each so many times.
+/// These rows, each `times` times.
 fn candidates(alloc: Global, list: &[Placed], times: u32) -> Result<Vec<Candidate>, Fail> {
     let mut candidates = Vec::new(alloc);
     for placed in list {
@@ -131,7 +131,7 @@ fn candidates(alloc: Global, list: &[Placed], times: u32) -> Result<Vec<Candidat
     Ok(candidates)
 }
 
-/// A proposer of these rows, each so many times, after the others.
+/// A proposer of these rows, each `times` times, after the others.
 pub(crate) fn push_offering(
     alloc: Global,
     proposers: &mut Vec<Box<dyn Proposer>>,

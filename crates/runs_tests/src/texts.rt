@@ -215,7 +215,7 @@ pub(crate) fn with_line(
     Ok(text)
 }
 
-/// The front, and after it so many lines of the certificate.
+/// The front, and after it `count` lines of the certificate.
 pub(crate) fn with_lines(
     alloc: Global,
     front: &str,
@@ -256,7 +256,7 @@ fn push_part(text: &mut Vec<u8>, part: &str, number: u32) -> Result<(), AllocErr
     Ok(())
 }
 
-/// A text of a front, of so many parts, and of an end. Each `#` of a part stands for three letters, others in each part.
+/// A text of a front, of the part `times` times, and of an end. Each `#` of a part stands for three letters, others in each part.
 pub(crate) fn repeated(
     alloc: Global,
     front: &str,

@@ -8,7 +8,7 @@ use tv_cases::Cases;
 use tv_linear::Row;
 use tv_propose::Proposer;
 
-/// Offers a row of zeros over so many columns at a location, again and again, and then has so much less left.
+/// Offers a row of zeros over `columns` columns at a location, again and again. After each, `left` is smaller by `less`.
 #[derive(Drop)]
 pub struct Hostile {
     pub left: u64,

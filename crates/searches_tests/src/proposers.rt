@@ -5,7 +5,7 @@ use tv_candidates::Candidate;
 use tv_cases::Cases;
 use tv_propose::{Bounds, Differences, GuardRows, Proposer, Scripted};
 
-/// At most so many of the candidates that a proposer gives.
+/// The first candidates that a proposer gives, at most `most` of them.
 fn first<P: Proposer>(
     alloc: Global,
     about: &Cases,

@@ -18,7 +18,7 @@ enum Wanted {
     /// A split at a row, with the target of each side.
     Split(Numbers, u32, u32),
     Hole(&'static [i128]),
-    /// A tree with so many splits on its longest path.
+    /// A tree with this many splits on its longest path.
     Depth(u32),
     /// The rows of the path, without points.
     Splits(&'static [Numbers]),

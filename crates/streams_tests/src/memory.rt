@@ -45,7 +45,7 @@ fn is_read(answer: &Result<Vec<u8>, ReadError>, wanted: Option<ReadError>) -> bo
     }
 }
 
-/// Whether the text has lost so many bytes at its front.
+/// Whether the text has lost `lost` bytes at its front.
 fn has_lost(rest: &[u8], lost: usize) -> bool {
     TEXT.len().checked_sub(rest.len()) == Some(lost) && TEXT.ends_with(rest)
 }

@@ -295,7 +295,7 @@ fn the_token_that_opens_level_65_is_at_fault(rt: HostRuntime) {
     }
 }
 
-/// The fault of a text of so many blanks and an end, if it has one.
+/// The fault of a text of `blanks` blanks and an end, if it has one.
 fn fault_behind(alloc: Global, blanks: u32, end: &str) -> Result<Option<FormulaFault>, ReadFault> {
     let text = repeated(alloc, b" ", blanks, end.as_bytes())?;
     fault_of(alloc, &text)

@@ -100,7 +100,7 @@ const LIMITS: &[(&str, u32, &str, Result<u32, PartFault>)] = &[
     ("nondet()+", 64, "nondet() > 0", Err(TooMany { at: 576 })),
 ];
 
-/// How many tokens the condition of a text with so many parts has.
+/// How many tokens the condition of a text with the part `times` times has.
 fn repeated_taken(alloc: Global, part: &str, times: u32, end: &str) -> Result<u32, PartFault> {
     match repeated(alloc, part.as_bytes(), times, end.as_bytes()) {
         Ok(text) => condition_taken(alloc, &text),
@@ -116,7 +116,7 @@ fn conditions_keep_the_limits(rt: HostRuntime) {
     }
 }
 
-/// How many tokens the sum of 1 after so many signs has.
+/// How many tokens the sum of 1 after `times` signs has.
 fn signs_taken(alloc: Global, times: u32) -> Result<u32, PartFault> {
     match repeated(alloc, b"-", times, b"1") {
         Ok(text) => sum_taken(alloc, &text),

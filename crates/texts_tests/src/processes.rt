@@ -234,7 +234,7 @@ fn tells_the_first_fault(rt: HostRuntime) {
     }
 }
 
-/// The fault of a text that stands so many times.
+/// The fault of a front, the part `times` times, and an end; `None` where there is none.
 fn fault_of_many(
     alloc: Global,
     front: &str,

@@ -31,7 +31,7 @@ fn append_part(text: &mut Vec<u8>, part: &[u8], number: u32) -> Result<(), Alloc
     Ok(())
 }
 
-/// A front, so many parts, and an end.
+/// A front, the part `times` times, and an end.
 pub(crate) fn text_of(
     alloc: Global,
     front: &str,
@@ -245,7 +245,7 @@ fn tells_the_first_fault(rt: HostRuntime) {
     }
 }
 
-/// The fault of a text with so many parts.
+/// The fault of a text with the part `times` times.
 fn fault_at(
     alloc: Global,
     front: &str,

@@ -18,7 +18,7 @@ pub(crate) fn joined(
     Ok(text)
 }
 
-/// The bytes so many times, and `end`.
+/// The bytes repeated `times` times, and then `end`.
 pub(crate) fn repeated(
     alloc: Global,
     bytes: &[u8],

@@ -29,7 +29,7 @@ fn graph(alloc: Global) -> Result<Vec<Arc>, AllocError> {
     Ok(arcs)
 }
 
-/// How many nodes the components have, which are found so many times.
+/// How many nodes the components have. They are found `times` times.
 pub(crate) fn found(alloc: Global, times: u64) -> Result<String, AllocError> {
     let arcs = graph(alloc)?;
     let mut nodes = 0;

@@ -48,7 +48,7 @@ fn told(alloc: Global, answer: Result<Covered, CoverFault>) -> Result<String, Al
     }
 }
 
-/// What comes of the rows and targets in the text, for each system of which so many bases are tried.
+/// What comes of the rows and targets in the text, where `bases` bases are tried for each system.
 pub(crate) fn covered(alloc: Global, text: &str, bases: u64) -> Result<String, Fault> {
     let mut words = text.split_whitespace();
     let columns = next_count(&mut words)?;

@@ -17,7 +17,7 @@ fn are_even(rows: &[Row], columns: u32) -> bool
     rows.iter().all(|row| row.columns() == columns)
 }
 
-/// What comes of the rows in the text, for which so many bases are tried.
+/// What comes of the rows in the text, where `bases` bases are tried.
 pub(crate) fn refuted(alloc: Global, text: &str, bases: u64) -> Result<String, Fault> {
     let mut words = text.split_whitespace();
     let count = next_count(&mut words)?;

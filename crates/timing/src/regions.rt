@@ -1,4 +1,4 @@
-//! The rounds of fixed points over the cases of a program: some run reaches a piece, each does, or from each state of all runs some does.
+//! The rounds of fixpoints over the cases of a program: some run reaches a piece, each does, or from each state of all runs some does.
 //!
 //! The first line of the text is the location of the piece, how many rows it has and the rows, each with its constant after its variables.
 //! The program follows.
@@ -100,7 +100,7 @@ fn everywhere(alloc: Global, about: &Cases) -> Result<Region, Fault> {
     })
 }
 
-/// The fixed point whose rounds are made, where going back over steps is exact.
+/// The fixpoint whose rounds are made, where going back over steps is exact.
 fn rounds_of(
     alloc: Global,
     about: &Cases,
@@ -209,7 +209,7 @@ fn always(alloc: Global, question: &Question, bases: u64) -> Result<String, Faul
     }
 }
 
-/// What comes of the piece and the program in the text, for each system of which so many bases are tried.
+/// What comes of the piece and the program in the text, where `bases` bases are tried for each system.
 pub(crate) fn answered(
     alloc: Global,
     text: &str,

@@ -29,7 +29,7 @@ struct Showing {
     multipliers: Vec<i64>,
 }
 
-/// So many multipliers.
+/// The next `count` multipliers in the text.
 fn next_multipliers(
     alloc: Global,
     words: &mut SplitWhitespace<'_>,
@@ -43,7 +43,7 @@ fn next_multipliers(
     Ok(multipliers)
 }
 
-/// So many variables with their terms.
+/// The next `count` variables in the text, with their terms.
 fn next_updates(
     alloc: Global,
     words: &mut SplitWhitespace<'_>,
@@ -129,7 +129,7 @@ fn is_done(way: Way, showing: &Showing, time: u64) -> bool {
     )
 }
 
-/// Whether the row in the text is shown, which is tried so many times.
+/// Whether the row in the text is shown. It is tried `times` times.
 pub(crate) fn shown(alloc: Global, text: &str, way: Way, times: u64) -> Result<String, Fault> {
     let showing = showing_of(alloc, &mut text.split_whitespace())?;
     let mut done = true;

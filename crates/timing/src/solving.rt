@@ -15,7 +15,7 @@ use tv_simplex::{Answer, Entries, SolveFault, System, solve};
 /// More entries than this no system has.
 const MAX_ENTRIES: usize = 4_000_000;
 
-/// Puts so many zeros at the end.
+/// Puts `count` zeros at the end.
 fn skip(entries: &mut Entries, count: u32) -> Result<(), Fault> {
     if entries.len() > MAX_ENTRIES {
         return Err(Fault::Form);
@@ -24,7 +24,7 @@ fn skip(entries: &mut Entries, count: u32) -> Result<(), Fault> {
     Ok(())
 }
 
-/// Puts so many zeros at the end, and then a number.
+/// Puts `zeros` zeros at the end, and then a number.
 fn push_behind(entries: &mut Entries, zeros: u32, number: i128) -> Result<(), Fault> {
     skip(entries, zeros)?;
     if entries.len() > MAX_ENTRIES {
@@ -34,7 +34,7 @@ fn push_behind(entries: &mut Entries, zeros: u32, number: i128) -> Result<(), Fa
     Ok(())
 }
 
-/// Puts a row of so many entries at the end. The text says how many of them it has, and has each after its column; the others are 0.
+/// Puts a row of `columns` entries at the end. The text says how many of them it has, and has each after its column; the others are 0.
 fn push_row(
     entries: &mut Entries,
     words: &mut SplitWhitespace<'_>,
@@ -96,7 +96,7 @@ pub(crate) fn refusal(alloc: Global, fault: SolveFault) -> Result<String, AllocE
     }
 }
 
-/// What comes of the equations in the text, for which so many bases are tried.
+/// What comes of the equations in the text, where `bases` bases are tried.
 pub(crate) fn solved(alloc: Global, text: &str, bases: u64) -> Result<String, Fault> {
     let system = system_of(alloc, &mut text.split_whitespace())?;
     if !is_whole(&system) {

@@ -90,7 +90,7 @@ pub(crate) fn named(word: &str) -> Option<Task> {
     None
 }
 
-/// What comes of the task on the text. It is done so many times, or tries so many bases; what is read is read once.
+/// What comes of the task on the text. It is done `count` times, or tries `count` bases; what is read is read once.
 pub(crate) fn answer(
     alloc: Global,
     task: Task,

@@ -37,7 +37,7 @@ pub(crate) fn next_number(words: &mut SplitWhitespace<'_>) -> Result<i128, Fault
     }
 }
 
-/// Puts so many numbers at the end of the list.
+/// Puts `count` numbers at the end of the list.
 pub(crate) fn push_numbers(
     numbers: &mut Vec<i128>,
     words: &mut SplitWhitespace<'_>,
@@ -49,7 +49,7 @@ pub(crate) fn push_numbers(
     Ok(())
 }
 
-/// The row of so many columns that comes next in the text: its coefficients and its constant.
+/// The row of `columns` columns that comes next in the text: its coefficients and its constant.
 pub(crate) fn next_row(
     alloc: Global,
     words: &mut SplitWhitespace<'_>,

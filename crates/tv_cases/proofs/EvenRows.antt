@@ -20,7 +20,7 @@ use Rattle.tv_linear.proofs.Entries.{columns-combined}
 use Rattle.tv_cases.specs.LinearCases.{LinearCase}
 use Rattle.tv_cases.specs.Before.{term_row, rows_after, before}
 
--- each row has so many columns
+-- each row has w columns
 abbrev pub AreWide : ℕ → List Linear → Type 0
 AreWide w [] = Unit {0}
 AreWide w (r ∷ rows) = (columns r ≡ w) × AreWide w rows

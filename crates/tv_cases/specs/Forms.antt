@@ -24,14 +24,14 @@ is_zero (negsuc n) = false
 abbrev pub is_number : Linear → Bool
 is_number r = list_all is_zero r.coefficients
 
--- the product of two rows of which one is a number
+-- the product of two rows, where one of them is a number
 abbrev pub times : Linear → Linear → Linear
 times r s = cond (is_number s) (scaled s.constant r) (scaled r.constant s)
 
 -- ---- linear forms
 
--- The linear form of an expression over w columns, of which the first n are the variables and the others the draws; each variable
--- has the term that is given.
+-- The linear form of an expression over w columns: the first n are the variables, the others the draws. Each variable has the term
+-- that is given.
 abbrev mutual
   pub form : ℕ → ℕ → List Linear → Expression → Linear
   form n w terms (number z) = constant_row w z

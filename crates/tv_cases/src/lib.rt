@@ -1,4 +1,4 @@
-//! Programs as linear cases: each way to take an edge, by rows of whole numbers.
+//! Programs as linear cases: each way to take an edge, by rows of integers.
 #![tactic(auto)]
 
 mod amount;
@@ -16,9 +16,10 @@ mod relations;
 mod rows;
 mod terms;
 
+pub use amount::{Amount, amount_of_commands};
 pub use backward::{all_before, before};
 pub use case::{Case, CaseFault, Cases};
-pub use comparisons::comparison_lists;
+pub use comparisons::{comparison_lists, expression_form};
 pub use products::{is_number, is_zero};
 pub use program::cases;
 pub use tv_linear::Update;

@@ -15,7 +15,7 @@ ghost use Rattle.tv_program.specs.Programs.{system_of};
 ghost use Rattle.tv_cases.specs.Systems.{cases_of};
 ghost use Rattle.tv_cases.specs.Answers.{AddsEdge, Lists, IsCollected, IsFaultIn, Answers, IsOfProgram, HaveSameSteps};
 
-use crate::amount::{Amount, after_commands, capped};
+use crate::amount::{Amount, amount_of_commands, capped};
 use crate::case::{Case, CaseFault, Cases};
 use crate::edges::{edge_cases, is_assigned, test_edge};
 use crate::fault::{EdgeFault, as_edge};
@@ -43,7 +43,7 @@ fn assigned_variables(commands: &[Command], variables: u32) -> u64
     count
 }
 
-/// The coefficients of so many lists, each with so many updates.
+/// The number of coefficients of `amount`, where each list has `updates` updates and each row or update has `width` coefficients.
 fn all_coefficients(amount: Amount, updates: u64, width: u64) -> u64
     requires capped { IsCapped amount }
     requires bounded { updates ≤ 512 }
@@ -65,7 +65,7 @@ fn edge_coefficients(edge: &Edge, count: Amount, variables: u32) -> u64
     all_coefficients(count, updates, variables as u64 + edge.draws as u64)
 }
 
-/// Whether there is room for so many cases and coefficients more.
+/// Whether there is room for `lists` more cases and `coefficients` more coefficients.
 fn is_room(so_far: &Collected, lists: u64, coefficients: u64) -> bool
     requires lists { lists ≤ 8000001 }
     requires coefficients { coefficients ≤ 8000001 }
@@ -108,7 +108,7 @@ fn with_edge(
     requires so_far { IsCollected so_far }
     ensures { AddsEdge variables (case_views so_far.cases.items) (transition edge.now) result }
 {
-    let amount = after_commands(&edge.commands);
+    let amount = amount_of_commands(&edge.commands);
     let coefficients = edge_coefficients(edge, amount, variables);
     if !is_room(&so_far, amount.lists, coefficients) {
         return Err(too_many(alloc, edge, variables));
@@ -182,8 +182,8 @@ fn of_edges(
 
 /// The linear cases of a program: it steps exactly where one of them does.
 ///
-/// Each command is executed on linear terms over the variables and the draws. An assumption becomes lists of rows, one of
-/// which has to be met whole; each list of an edge is one case. Of several faults that of the first edge is reported, and of two
+/// Each command is executed on linear terms over the variables and the draws. An assumption becomes lists of rows, and
+/// one of the lists has to be met whole. Each list of an edge is one case. Of several faults that of the first edge is reported, and of two
 /// at one edge `Wide`.
 pub fn cases(alloc: Global, program: &Program) -> Result<Cases, CaseFault>
     ensures exact { Answers (system_of program.now) result }

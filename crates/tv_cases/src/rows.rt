@@ -23,7 +23,7 @@ fn as_part(made: Result<Row, RowFault>) -> Result<Row, PartFault>
     }
 }
 
-/// A row, of which it is known that it is narrow.
+/// A row that is known to be narrow.
 pub(crate) fn known(row: Row) -> Result<Row, PartFault>
     ensures { Gives (is_narrow row) row result }
 {

@@ -59,6 +59,6 @@ pub record SafetyIsSettled (about : CaseSystem) (f : Property) (rests : List (Li
   pub invariant : (point : List ℤ) → IsInvariantCause about f (Some rests) l point → ⊥
   pub paths : (budget count : ℕ) → IsUnreachable l f → AreTooManyPaths about f (Some rests) budget count → ⊥
 
--- where the invariants are told to be too weak, no short run comes to the location
+-- where the invariants are reported to be too weak, no short run comes to the location
 abbrev pub NoShortRun : CaseSystem → ℕ → Type 0
 NoShortRun about l = (s : State) (run : List State) → IsInitialAt about s → IsRun (CaseSteps about) s run → length run ≤ 8 → (last_of s run).location ≡ l → ⊥

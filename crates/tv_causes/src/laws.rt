@@ -36,7 +36,7 @@ pub fn size_is_enough<M: Made>()
     ensures { (about : CaseSystem) (f : Property) → ¬ (HasDraw about) → SizeIsEnough about f M.pieces }
 {}
 
-/// Where the greatest inductive part of what is offered has no whole point at a location, no cause for its safety speaks of invariants.
+/// Where the greatest inductive part of what is offered has no integer point at a location, no cause for its safety speaks of invariants.
 pub fn sufficient_invariants()
     ensures { (about : CaseSystem) (f : Property) (rests : List (List Candidate)) (l : ℕ) →
         IsSufficient about rests l → SafetyIsSettled about f rests l }

@@ -28,8 +28,8 @@ TakeMet n l owed known (Some c) k j draws lists =
 abbrev pub NoStepMet : ℕ → List Known → List LinearCase → List CoverTree → Type 0
 NoStepMet n known cases covers = AllZip (λ c cover. IsMetCover (n + c.draws) no_target (known ++ as_given c.guards) cover) cases covers
 
--- The choice is met at the known rows, which have n columns, at a location. `stop` tells whether it may show that there is no step;
--- owed tells the rows to be shown on entering a target by a case with these terms for its draws.
+-- The choice is met at the known rows, which have n columns, at a location. `stop` says whether it may show that there is no step;
+-- `owed` gives the rows to be shown on entering a target by a case with these terms for its draws.
 abbrev pub IsMetChoice : ℕ → List LinearCase → ℕ → Bool → (LinearCase → List Linear → ℕ → ℕ → Option (List Known)) → List Known → ChoiceTree → Type 0
 IsMetChoice n cases l stop owed known (Split' r p a q b) =
     IsMetChoice n cases l stop owed (known ++ given r ∷ []) a × IsMetChoice n cases l stop owed (known ++ denied (given r) ∷ []) b

@@ -34,6 +34,6 @@ guards_listed (Some guards) = map (change_of guards.change.now) guards.rows.now
 abbrev pub owed_listed : OwedRows → List Known
 owed_listed owed = guards_listed owed.guards ++ entered_listed (change_of owed.change.now) owed.entered
 
--- it is told whether the multipliers show the row at a place, where n columns are known to meet these rows
+-- `shown` says whether the multipliers show the row at a place, where n columns are known to meet these rows
 abbrev pub ShowsRow : ℕ → List Known → List Known → ℕ → List ℤ → Bool → Type 0
 ShowsRow n known rows place ms shown = (row : Known) → slice_get rows place ≡ Some row → IsTrue shown ↔ Refutes n (known ++ denied row ∷ []) ms

@@ -3,7 +3,7 @@ use Rattle.tv_linear.specs.Linear.{Linear}
 use Rattle.tv_linear.specs.Packed.{unpacked}
 use Rattle.tv_cert.specs.declared.node.Mark.{Mark}
 
--- a piece: its location, what it is for, its rows and its ranks over so many columns
+-- a piece: its location, what it is for, its rows and its ranks over `columns` columns
 pub record MarkedRows : Type 0 where
   pub location : ℕ
   pub columns : ℕ
@@ -14,7 +14,7 @@ pub record MarkedRows : Type 0 where
 abbrev pub marked : ℕ → ℕ → Mark → List Linear → List Linear → MarkedRows
 marked location n mark rows ranks = record { location = location; columns = n; mark = mark; rows = rows; ranks = ranks }
 
--- the piece whose rows, so many of them, and then its ranks stand in a list of numbers
+-- the piece whose `count` rows and then its ranks stand in a list of numbers
 abbrev pub marked_in : ℕ → ℕ → Mark → ℕ → List ℤ → MarkedRows
 marked_in location n mark count zs =
     marked location n mark (unpacked n count zs) (unpacked n (length zs / (n + 1) - count) (drop (count * (n + 1)) zs))

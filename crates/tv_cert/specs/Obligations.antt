@@ -19,7 +19,7 @@ use Rattle.tv_cert.specs.Pieces.{place_of, rows_of, ranks_of}
 use Rattle.tv_cert.specs.Targets.{owed_into, changed_lists, owed_nothing, no_fall, fall_from}
 use Rattle.tv_cert.specs.Choices.{IsMetChoice, drawn_change}
 
--- what a certificate is about: the cases of a program, and the lists of rows of a comparison, one of which is met where it is true
+-- what a certificate is about: the cases of a program, and the lists of rows of a comparison; one list is met where it is true
 pub record About : Type 0 where
   pub system : CaseSystem
   pub tests : Relation → Expression → Expression → List (List Linear)
@@ -110,7 +110,7 @@ abbrev pub truth_targets : Bool → List (List Linear)
 truth_targets true = [] ∷ []
 truth_targets false = []
 
--- of the arguments of a fixed point: what holds on the way, and what holds at the end
+-- of the arguments of a fixpoint: what holds on the way, and what holds at the end
 abbrev pub hold_side : {A : Type 0} → Shape → A → A → A
 hold_side Until a b = a
 hold_side Weak a b = a
@@ -134,7 +134,7 @@ go_of number about Any Strong ps p = choice_of number kind.Choice about p false 
 go_of number about Any Weak ps p = choice_of number kind.Choice about p true (choice_into about ps (λ c draws. no_fall)) ∷ []
 go_of number about Any Release ps p = choice_of number kind.Choice about p true (choice_into about ps (λ c draws. no_fall)) ∷ []
 
--- the obligations of a fixed point, where a and b are the pieces of its arguments
+-- the obligations of a fixpoint, where a and b are the pieces of its arguments
 abbrev pub fix_of : ℕ → About → Path → Shape → List Marked → List Marked → List Marked → Marked → Bool → List Obligation
 fix_of number about path shape ps a b p false = map (cover_of number kind.Done about p) (end_sides shape a b)
 fix_of number about path shape ps a b p true = cover_of number kind.Hold about p (hold_side shape a b) ∷ go_of number about path shape ps p

@@ -29,13 +29,13 @@ use Rattle.tv_cert.specs.Nodes.{kid_pieces, root_entry, node_owes}
 abbrev pub owed_count : (ℕ → ℕ → Option (List Known)) → ℕ → ℕ → Option ℕ
 owed_count owed k j = option_map length (owed k j)
 
--- as many lists as rows are owed, each of so many multipliers
+-- as many lists as rows are owed; each list has `count` multipliers
 abbrev pub ListsShape : ℕ → Option ℕ → List (List ℤ) → Type 0
 ListsShape count None lists = ⊥
 ListsShape count (Some rows) lists = (length lists ≡ rows) × All (λ ms. length ms ≡ count) lists
 
--- The shape of a cover at a place with so many known rows: split rows have n columns, there is one multiplier for each row of the
--- place, and one more for the denial of a row to be shown. `counts` tells how many rows a target and fall owe.
+-- The shape of a cover at a place with `known` known rows: split rows have n columns, there is one multiplier for each row of the
+-- place, and one more for the denial of a row to be shown. `counts` says how many rows a target and fall owe.
 abbrev pub CoverShape : ℕ → (ℕ → ℕ → Option ℕ) → ℕ → CoverTree → Type 0
 CoverShape n counts known (cover.Split' r p a q b) = (columns r ≡ n) × CoverShape n counts (known + 1) a × CoverShape n counts (known + 1) b
 CoverShape n counts known (cover.Empty ms) = length ms.items ≡ known
@@ -53,7 +53,7 @@ TakeShape n l owed known (Some c) k j draws lists =
     (c.from ≡ l) × (length draws ≡ c.draws) × All (λ r. columns r ≡ n) draws
     × ListsShape (known + 1) (option_map (λ rows. length c.guards + length rows) (owed c draws k j)) lists
 
--- the shape of a choice at a place with so many known rows over n variables, at a location
+-- the shape of a choice at a place with `known` known rows over n variables, at a location
 abbrev pub ChoiceShape : ℕ → List LinearCase → ℕ → Bool → (LinearCase → List Linear → ℕ → ℕ → Option (List Known)) → ℕ → ChoiceTree → Type 0
 ChoiceShape n cases l stop owed known (choice.Split' r p a q b) =
     (columns r ≡ n) × ChoiceShape n cases l stop owed (known + 1) a × ChoiceShape n cases l stop owed (known + 1) b
@@ -70,7 +70,7 @@ ProofShape (a_choice n cases l stop owed known) (Covered tree) = ⊥
 ProofShape (a_choice n cases l stop owed known) (Chosen tree) = ChoiceShape n cases l stop owed (length known) tree × (choice_splits tree ≤ 128)
 ProofShape (a_point xs rows) proof = ⊥
 
--- whether pieces may be done: in fixed points alone
+-- whether pieces may be done: in fixpoints alone
 abbrev pub may_be_done : Statement → Bool
 may_be_done (along path shape s t) = true
 may_be_done s = false

@@ -1,4 +1,4 @@
--- That two statements are equal in at most one way, so that a claim can carry what its aims state.
+-- Two statements are equal in at most one way, so that a claim can carry what its aims state.
 use Rattle.std.specs.Prelude.{◌≡◌, ℕ, List, ℤ}
 use Rattle.std.specs.Coded.{Coded, Coded-set, coded_ℕ, coded_ℤ, coded_list, coded×, code_by}
 use Rattle.tv_formula.specs.declared.tree.Path.{Path}

@@ -34,7 +34,7 @@ denial_of term = never_ends
 denial_of f = unsaid
 
 abbrev mutual
-  -- what a formula states, told the lists of rows of a comparison
+  -- what a formula states, given the lists of rows of a comparison
   pub stated : (Relation → Expression → Expression → List (List Linear)) → Property → Statement
   stated tests (truth b) = rows (truth_targets b)
   stated tests (compare r a b) = rows (tests r a b)

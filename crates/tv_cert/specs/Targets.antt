@@ -16,7 +16,7 @@ target_rows change fall (Some q) j = option_map (λ falls. map change (rows_of q
 abbrev pub owed_into : List Marked → ℕ → (Linear → Known) → (Marked → ℕ → Option (List Known)) → ℕ → ℕ → Option (List Known)
 owed_into ps l change fall k j = target_rows change fall (slice_get (pieces_at ps l) k) j
 
--- the targets are lists of rows, each of which is changed
+-- the targets are lists of rows, and each row is changed
 abbrev pub changed_lists : (Linear → Known) → List (List Linear) → ℕ → ℕ → Option (List Known)
 changed_lists change targets k zero = option_map (map change) (slice_get targets k)
 changed_lists change targets k (suc j) = None

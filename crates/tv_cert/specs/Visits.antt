@@ -2,7 +2,7 @@
 use Rattle.std.specs.Prelude.{◌≡◌, ℕ, ◌+◌, ◌≤◌, List, [], ◌∷◌, ◌++◌, length, Bool, true, false}
 use Rattle.tv_cert.specs.Obligations.{Obligation}
 
--- From one state to another over all these obligations, each of which is passed.
+-- From one state to another over all these obligations; each of them is passed.
 pub data Passed {S : Type 0} (passes : S → Obligation → S → Type 0) : S → List Obligation → S → Type 0 where
   none : {s : S} → Passed passes s [] s
   one : {s t u : S} {o : Obligation} {os : List Obligation} → passes s o t → Passed passes t os u → Passed passes s (o ∷ os) u

@@ -1,7 +1,7 @@
 use crate::pieces::Pieces;
 use tv_formula::{Path, Shape};
 
-/// A fixed point, with the pieces of both its arguments.
+/// A fixpoint, with the pieces of both its arguments.
 #[derive(Clone, Copy)]
 pub(crate) struct FixedPoint<'a> {
     pub(crate) path: Path,

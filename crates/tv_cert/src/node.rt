@@ -40,7 +40,7 @@ impl Model for Marked {
 }
 
 impl Marked {
-    /// The piece of so many rows with which the numbers begin; its ranks stand after them. It takes no memory, and keeps the list's.
+    /// The piece whose `rows` rows the numbers begin with; its ranks stand after them. It takes no memory, and keeps the list's.
     pub fn from_numbers(
         location: u32,
         mark: Mark,

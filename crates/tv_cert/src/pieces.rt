@@ -32,7 +32,7 @@ impl Model for Pieces {
     ghost invariant = { λ p. IsIndexed p.list.items p.index.items };
 }
 
-/// So many pieces are gone through in less time than they are looked up.
+/// It takes less time to go through this many pieces than to look them up.
 const SHORT: usize = 16;
 
 /// The locations of the pieces, in order.

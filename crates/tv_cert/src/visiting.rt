@@ -204,7 +204,7 @@ fn visit_done<V: Visitor>(visitor: &mut V, at: &At, fixed: &FixedPoint) -> bool
     }
 }
 
-/// Visits a choice that shows a successor, and then the steps, each of which makes the ranks fall.
+/// Visits a choice that shows a successor, and then the steps. Each step makes the ranks fall.
 fn visit_ranked<V: Visitor>(visitor: &mut V, at: &At, pieces: &Pieces) -> bool
     requires { let system = cases_of at.now.about.now in
         let successor = choice_of at.now.number Kind.Successor (about_of system) at.now.piece.now false (λ c draws. owed_nothing) in
@@ -263,7 +263,7 @@ fn visit_hold<V: Visitor>(visitor: &mut V, at: &At, fixed: &FixedPoint) -> bool
     }
 }
 
-/// Visits what a piece of a fixed point owes.
+/// Visits what a piece of a fixpoint owes.
 fn visit_fix<V: Visitor>(visitor: &mut V, at: &At, fixed: &FixedPoint, pieces: &Pieces) -> bool
     requires { let system = cases_of at.now.about.now in
         let piece = at.now.piece.now in

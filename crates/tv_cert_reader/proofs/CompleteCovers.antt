@@ -64,7 +64,7 @@ cover_read over (suc left) width known counts (cover_trees.Into k j lists) rest 
 
 -- ---- choices
 
--- a cover of a case without targets, with at most so many splits
+-- a cover of a case without targets, with at most `left` splits
 record StopShape (n known left : ℕ) (c : LinearCase) (tree : CoverTree) : Type 0 where
   pub shape : CoverShape (n + c.draws) (owed_count no_target) (known + length c.guards) tree
   pub shallow : splits tree ≤ left

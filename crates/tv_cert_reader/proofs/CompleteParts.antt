@@ -30,7 +30,7 @@ use Rattle.tv_cert_reader.proofs.CompleteReads.{then_read, mapped_read, times_re
 pub line_read : {X : Type 0} (f : Head → List ℤ → Option X) (head : Head) (zs : List ℤ) (x : X) (rest : List PlainLine) → f head zs ≡ Some x → (line f).read (formed head zs ∷ rest) ≡ Ok (x, rest)
 line_read f head zs x rest e = ap (λ o. branch_read (line_branch o) (formed head zs ∷ rest) rest) e
 
--- a line of such a head with so many numbers
+-- a line of such a head with `count` numbers
 pub sized_read : (is : Head → Bool) (head : Head) (count : ℕ) (zs : List ℤ) (rest : List PlainLine) → is head ≡ true → length zs ≡ count → (line (sized is count)).read (formed head zs ∷ rest) ≡ Ok (tt, rest)
 sized_read is head count zs rest e many = let t = eq-eqb (length zs) count many in line_read (sized is count) head zs tt rest (λ i. guarded (e i && t i) tt)
 
@@ -102,7 +102,7 @@ module _ (system : CaseSystem) (m : ℕ) (done : Bool) where
       ∙ then_read (many (length (rows_of p)) (row system.variables)) (λ _. ranking) (rows ++ (ranks ++ rest)) tt (ranks ++ rest) (rows_read system.variables (length (rows_of p)) (rows_of p) (ranks ++ rest) refl h.rows)
       ∙ mapped_read (λ _. outline p) (many (rank_count m (goes p)) (rank system.variables)) (ranks ++ rest) tt rest (ranks_read system.variables (rank_count m (goes p)) (ranks_of p) rest (h.many ∙ rank_many m (goes p)) h.ranks)
 
-  -- so many pieces
+  -- `length ps` pieces
   pub pieces_read : (ps : List Marked) (rest : List PlainLine) → All (PieceShape system m done) ps → (times (length ps) (piece system m done)).read (flat_map piece_lines ps ++ rest) ≡ Ok (outlines ps, rest)
   pieces_read ps rest all = times_read (piece system m done) (PieceShape system m done) piece_lines outline piece_read (length ps) ps rest refl all
 
@@ -125,7 +125,7 @@ ranked m true h = either (m == 0)
     either false = refl
 ranked m false h = ap (λ b. b || false) (eq-eqb m 0 (h refl))
 
--- the head of a node with so many pieces and ranks
+-- the head of a node with `count` pieces and `m` ranks
 pub opening_read : (s : Statement) (m count : ℕ) (rest : List PlainLine) → (may_rank s ≡ false → m ≡ 0) → m < 2 ^ 32 → (line (node_line (kind_of s) (may_rank s))).read (formed (heads.Node (kind_of s)) (pos count ∷ pos m ∷ []) ∷ rest) ≡ Ok (record { pieces = count; ranks = m }, rest)
 opening_read s m count rest may small =
     let a = kind_same (kind_of s) in

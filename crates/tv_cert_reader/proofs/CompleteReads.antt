@@ -13,7 +13,7 @@ then_read a b ts x r e = ap (λ o. o >>= λ p. (b p.0).read p.1) e
 pub mapped_read : {T K X Y : Type 0} (f : X → Y) (l : Lang T K X) (ts : List T) (x : X) (r : List T) → l.read ts ≡ Ok (x, r) → (mapped f l).read ts ≡ Ok (f x, r)
 mapped_read f l ts x r e = then_read l (λ x. unit (f x)) ts x r e
 
--- so many texts of one grammar
+-- `n` texts of one grammar
 module _ {T K A X : Type 0} (l : Lang T K X) (P : A → Type 0) (text : A → List T) (value : A → X) (reads : (a : A) (r : List T) → P a → l.read (text a ++ r) ≡ Ok (value a, r)) where
   pub times_read : (n : ℕ) (xs : List A) (r : List T) → length xs ≡ n → All P xs → (times n l).read (flat_map text xs ++ r) ≡ Ok (map value xs, r)
   unfolding times

@@ -107,7 +107,7 @@ module _ {A : Type 0} (P : A → Type 0) (text : A → List PlainLine) (old : Cu
     took = takes_as (flat_map text xs ++ text x) (flat_map text (xs ++ x ∷ [])) old new (last_text text xs x) (takes_both (flat_map text xs) (text x) old now new g.took t);
   })
 
--- so many are read, and the next one fails
+-- the texts of `xs` are read, and the next one fails
 module _ {A X : Type 0} (l : Grammar X) (P : A → Type 0) (text : A → List PlainLine) (value : A → X) (reads : (a : A) (r : List PlainLine) → P a → l.read (text a ++ r) ≡ Ok (value a, r)) where
   times_fault : (n : ℕ) (xs : List A) (now r : List PlainLine) (k : LineKind) → length xs < n → All P xs → l.read now ≡ fault k r → (times n l).read (flat_map text xs ++ now) ≡ fault k r
   unfolding times

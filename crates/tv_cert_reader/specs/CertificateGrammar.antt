@@ -27,7 +27,7 @@ said_line heads.Proved [] = Some true
 said_line heads.Disproved [] = Some false
 said_line head zs = None
 
--- a place among the pieces at the start, and so many values
+-- a place among the pieces at the start, and `n` values
 abbrev pub at_line : ℕ → Head → List ℤ → Option ℕ
 at_line n heads.At (k ∷ zs) = if_natural (natural k) (λ place. guarded (length zs == n) place)
 at_line n head zs = None
@@ -36,7 +36,7 @@ at_line n head zs = None
 abbrev pub proved : Bool → CaseSystem → Statement → Grammar (Unit {0})
 proved over system s = then (node over system s) (λ os. both (cover over 128 system.variables 0 (into_counts None os system.start)) last)
 
--- the nodes up to the values, of which the place is not looked at
+-- the nodes up to the values, whose place is not looked at
 abbrev pub at_values : Bool → CaseSystem → Statement → Grammar (List Outline × ℕ)
 at_values over system s = then (node over system s) (λ os. then (line (at_line system.variables)) (λ k. unit (os, k)))
 

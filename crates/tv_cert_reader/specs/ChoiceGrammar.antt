@@ -63,7 +63,7 @@ choice_cases sides covers x known (formed head zs) = stop Shape
 choice_cases sides covers x known formless = stop Syntax
 choice_cases sides covers x known wide = stop Wide
 
--- A choice with at most so many splits on a path, its covers' counted. `over` lets one more through.
+-- A choice with at most n splits on a path, its covers' counted. n is the second argument. `over` lets one more through.
 unfoldable pub choice : Bool → ℕ → Choosing → ℕ → Grammar (Unit {0})
 choice over zero x known = headed Syntax (choice_cases (too_deep over) (no_step over 0 x known) x known)
 choice over (suc left) x known =

@@ -26,7 +26,7 @@ abbrev pub choosing_of : CaseSystem → Marked → Bool → Destination → Choo
 choosing_of system p stop destination =
     record { variables = system.variables; cases = system.cases; place = place_of p; may_stop = stop; counts = λ c. owed_count (destination_owes system.variables p destination c []) }
 
--- a choice of this shape with at most so many splits on a path
+-- a choice of this shape with at most `left` splits on a path
 pub record IsChoiceWithin (system : CaseSystem) (p : Marked) (stop : Bool) (destination : Destination) (known left : ℕ) (tree : ChoiceTree) : Type 0 where
   pub shape : ChoiceShape system.variables system.cases (place_of p) stop (destination_owes system.variables p destination) known tree
   pub shallow : choice_splits tree ≤ left
@@ -35,7 +35,7 @@ pub record IsChoiceWithin (system : CaseSystem) (p : Marked) (stop : Bool) (dest
 abbrev pub ReadsChoice : CaseSystem → Marked → Bool → Destination → ℕ → ℕ → Cursor → Cursor → Result ChoiceTree Failure → Type 0
 ReadsChoice system p stop destination known left old new result = Reads (λ t. t) (IsChoiceWithin system p stop destination known left) choice_lines (choice false left (choosing_of system p stop destination) known) old new result
 
--- the numbers name this case, which leaves the location of the piece, and this target and fall, which owe so many rows whatever the
+-- the numbers name this case, which leaves the location of the piece, and this target and fall, which owe `rows` rows whatever the
 -- terms of its draws
 pub record IsTaken (system : CaseSystem) (p : Marked) (destination : Destination) (zs : List ℤ) (case : LinearCase) (c target fall rows : ℕ) : Type 0 where
   pub numbers : zs ≡ pos c ∷ pos target ∷ pos fall ∷ []
@@ -53,7 +53,7 @@ NamesNoCase system p destination zs =
 abbrev pub ReadsStop : ℕ → ℕ → ℕ → LinearCase → Cursor → Cursor → Result CoverTree Failure → Type 0
 ReadsStop n known left c old new result = Reads (λ t. t) (IsCoverWithin (n + c.draws) (owed_count no_target) (known + length c.guards) left) cover_lines (stop_cover false left n known c) old new result
 
--- a cover without targets of the guards of a case, with at most so many splits
+-- a cover without targets of the guards of a case, with at most `left` splits
 abbrev pub IsStop : ℕ → ℕ → ℕ → LinearCase → CoverTree → Type 0
 IsStop n known left c tree = IsCoverWithin (n + c.draws) (owed_count no_target) (known + length c.guards) left tree
 

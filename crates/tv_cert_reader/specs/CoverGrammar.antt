@@ -6,7 +6,7 @@ use Rattle.tv_lines.specs.declared.head.Head.TheVariants as heads
 use Rattle.tv_cert_reader.specs.declared.kind.LineKind.TheVariants.{Syntax, Wide, Deep, Shape}
 use Rattle.tv_cert_reader.specs.LineGrammar.{Grammar, Behind, many, by, with_two}
 
--- so many lines of multipliers of so many rows and a denial
+-- `count` lines of multipliers of `known` rows and a denial
 abbrev pub lists_behind : ℕ → Option ℕ → Behind (Unit {0})
 lists_behind known None = stop Shape
 lists_behind known (Some count) = go (many count (by (known + 1)))
@@ -22,7 +22,7 @@ sides_behind (stop k) wanted = stop k
 sides_behind (go sides) true = go sides
 sides_behind (go sides) false = stop Shape
 
--- What may stand after the first line of a cover at a place with so many rows. Its split rows have so many columns; `sides` is for a
+-- What may stand after the first line of a cover at a place with `known` rows. Its split rows have `width` columns; `sides` is for a
 -- split, told whether its row has them.
 abbrev pub cover_cases : (Bool → Behind (Unit {0})) → ℕ → ℕ → (ℕ → ℕ → Option ℕ) → PlainLine → Behind (Unit {0})
 cover_cases sides width known counts (formed heads.Split zs) = sides (length zs == width + 1)
@@ -41,7 +41,7 @@ too_deep true wanted = go (unit tt)
 abbrev pub both : Grammar (Unit {0}) → Grammar (Unit {0}) → Grammar (Unit {0})
 both a b = then a (λ _. b)
 
--- A cover with at most so many splits on a path. `over` lets one more through, of any numbers.
+-- A cover with at most n splits on a path. n is the second argument. `over` lets one more through, of any numbers.
 unfoldable pub cover : Bool → ℕ → ℕ → ℕ → (ℕ → ℕ → Option ℕ) → Grammar (Unit {0})
 cover over zero width known counts = headed Syntax (cover_cases (too_deep over) width known counts)
 cover over (suc left) width known counts =

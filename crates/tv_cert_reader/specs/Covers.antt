@@ -17,7 +17,7 @@ pub record IsBehind (head : Head) (zs : List ℤ) (old new : Cursor) : Type 0 wh
   pub front : Takes (formed head zs ∷ []) old new
   pub one : new.taken ≡ old.taken + 1
 
--- the numbers name this target and fall, which owe so many rows
+-- the numbers name this target and fall, which owe `rows` rows
 pub record IsTarget (counts : ℕ → ℕ → Option ℕ) (zs : List ℤ) (target fall rows : ℕ) : Type 0 where
   pub numbers : zs ≡ pos target ∷ pos fall ∷ []
   pub owes : counts target fall ≡ Some rows
@@ -31,7 +31,7 @@ abbrev pub IsSplitOf : Linear → CoverTree → CoverTree → CoverTree → Type
 IsSplitOf row holds fails (Split' r p a q b) = (r ≡ row) × (a ≡ holds) × (b ≡ fails)
 IsSplitOf row holds fails _ = ⊥
 
--- a cover of this shape with at most so many splits on a path
+-- a cover of this shape with at most `left` splits on a path
 pub record IsCoverWithin (width : ℕ) (counts : ℕ → ℕ → Option ℕ) (known left : ℕ) (tree : CoverTree) : Type 0 where
   pub shape : CoverShape width counts known tree
   pub shallow : splits tree ≤ left

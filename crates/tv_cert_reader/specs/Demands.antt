@@ -50,7 +50,7 @@ entered_count falls (Some o) j = option_map (λ n. o.rows + n) (fall_count falls
 abbrev pub into_counts : Option ℕ → List Outline → ℕ → ℕ → ℕ → Option ℕ
 into_counts falls os l k j = entered_count falls (slice_get (outlines_at os l) k) j
 
--- the targets are lists of so many rows
+-- the targets are lists, and `counts` has the number of rows of each
 abbrev pub list_counts : List ℕ → ℕ → ℕ → Option ℕ
 list_counts counts k zero = slice_get counts k
 list_counts counts k (suc j) = None
@@ -69,7 +69,7 @@ no_counts k j = None
 pub data Demand : Type 0 where
   -- a cover: how many columns its split rows have, how many rows are known, and how many a target and fall owe
   a_cover : ℕ → ℕ → (ℕ → ℕ → Option ℕ) → Demand
-  -- a choice over so many variables, with these cases, at a location, where it may show that there is no step or may not; how many rows
+  -- a choice over n variables, with these cases, at a location, where it may show that there is no step or may not; how many rows
   -- are known, and how many a target and fall owe after a case
   a_choice : ℕ → List LinearCase → ℕ → Bool → ℕ → (LinearCase → ℕ → ℕ → Option ℕ) → Demand
 
@@ -113,7 +113,7 @@ go_demands system Any Strong m os o = choice_demand system o false (case_counts 
 go_demands system Any Weak m os o = choice_demand system o true (case_counts None os) ∷ []
 go_demands system Any Release m os o = choice_demand system o true (case_counts None os) ∷ []
 
--- what a piece of a fixed point wants, where a and b are the pieces of its arguments, and it goes on or is done
+-- what a piece of a fixpoint wants, where a and b are the pieces of its arguments, and it goes on or is done
 abbrev pub fix_demands : CaseSystem → Path → Shape → ℕ → List Outline → List Outline → List Outline → Outline → Bool → List Demand
 fix_demands system path shape m os a b o false = map (into_demand system o) (end_sides shape a b)
 fix_demands system path shape m os a b o true = into_demand system o (hold_side shape a b) ∷ go_demands system path shape m os o

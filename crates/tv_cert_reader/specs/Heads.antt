@@ -14,7 +14,7 @@ pub record IsPieceHead (locations : ℕ) (done : Bool) (head : Head) (zs : List 
   pub place : location < locations
   pub marked : done ≡ false → is_go mark ≡ true
 
--- those of a node of this kind with so many pieces and ranks
+-- those of a node of this kind with `count` pieces and `m` ranks
 pub record IsNodeHead (kind : NodeKind) (ranked : Bool) (head : Head) (zs : List ℤ) (count m : ℕ) : Type 0 where
   pub opening : head ≡ heads.Node kind
   pub numbers : zs ≡ pos count ∷ pos m ∷ []

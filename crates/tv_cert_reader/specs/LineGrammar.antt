@@ -67,11 +67,11 @@ abbrev pub is_end : Head → Bool
 is_end heads.End = true
 is_end head = false
 
--- a line of such a head with so many numbers
+-- a line of such a head with `count` numbers
 abbrev pub sized : (Head → Bool) → ℕ → Head → List ℤ → Option (Unit {0})
 sized is count head zs = guarded (is head && (length zs == count)) tt
 
--- a row of a piece, a rank, or a term for a draw, over so many columns
+-- a row of a piece, a rank, or a term for a draw, over `width` columns
 abbrev pub row : ℕ → Grammar (Unit {0})
 row width = line (sized is_row (width + 1))
 
@@ -81,7 +81,7 @@ rank width = line (sized is_rank (width + 1))
 abbrev pub draw : ℕ → Grammar (Unit {0})
 draw width = line (sized is_draw (width + 1))
 
--- so many multipliers
+-- `count` multipliers
 abbrev pub by : ℕ → Grammar (Unit {0})
 by count = line (sized is_by count)
 
@@ -91,7 +91,7 @@ header = line (sized is_header 0)
 abbrev pub last : Grammar (Unit {0})
 last = line (sized is_end 0)
 
--- so many of these
+-- `count` of these
 abbrev pub many : ℕ → Grammar (Unit {0}) → Grammar (Unit {0})
 many count l = mapped (λ all. tt) (times count l)
 
@@ -160,7 +160,7 @@ is_going marks.Done = false
 abbrev pub piece_numbers : ℕ → Bool → Bool → ℕ → ℕ → Option Outline
 piece_numbers locations done going l r = guarded (nat_lt l locations && (done || going)) (record { place = l; going = going; rows = r })
 
--- a piece at one of so many locations, which may be done or may not
+-- a piece at one of `locations` locations, which may be done or may not
 abbrev pub piece_line : ℕ → Bool → Head → List ℤ → Option Outline
 piece_line locations done (heads.Piece mark) zs = with_two zs (piece_numbers locations done (is_going mark))
 piece_line locations done head zs = None

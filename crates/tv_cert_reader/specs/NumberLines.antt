@@ -1,4 +1,4 @@
--- Lines of numbers of which it is told how many there are.
+-- Lines of numbers whose count is given.
 use Rattle.std.specs.Prelude.{ℕ, Bool}
 use Rattle.tv_lines.specs.declared.head.Head.{Head}
 use Rattle.tv_lines.specs.declared.head.Head.TheVariants as heads
@@ -22,6 +22,6 @@ tells kinds.Draw = is_draw
 tells kinds.By = is_by
 tells kinds.End = is_end
 
--- such a line with so many numbers
+-- such a line with `count` numbers
 abbrev pub line_with : NumberLine → ℕ → Grammar (Unit {0})
 line_with kind count = line (sized (tells kind) count)

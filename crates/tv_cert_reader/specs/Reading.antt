@@ -30,7 +30,7 @@ abbrev pub FailsBy : {V : Type 0} → Grammar V → Cursor → Failure → Type 
 FailsBy g c (Fault k line) = FaultAt g c k line
 FailsBy g c Memory = Unit {0}
 
--- A thing of some kind was read, of which these are the lines; or the grammar is not read, or memory did not do.
+-- A thing of some kind was read, and these are its lines; or the grammar is not read, or memory did not do.
 abbrev pub Reads : {X Y V : Type 0} → (X → Y) → (Y → Type 0) → (Y → List PlainLine) → Grammar V → Cursor → Cursor → Result X Failure → Type 0
 Reads seen Has lines g old new (Ok x) = Has (seen x) × Takes (lines (seen x)) old new
 Reads seen Has lines g old new (Err f) = FailsBy g old f

@@ -23,7 +23,7 @@ ReadsPiece system m done old new result = Reads (λ p. p) (PieceShape system m d
 abbrev pub pieces_in : Vec Marked → List Marked
 pieces_in v = v.items
 
--- so many of them are read
+-- `count` pieces are read
 abbrev pub ReadsPieces : CaseSystem → ℕ → Bool → ℕ → Cursor → Cursor → Result (Vec Marked) Failure → Type 0
 ReadsPieces system m done count old new result = Reads pieces_in (AreMany (PieceShape system m done) count) (flat_map piece_lines) (times count (piece system m done)) old new result
 

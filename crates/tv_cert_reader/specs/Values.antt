@@ -27,7 +27,7 @@ start_counts system ps = owed_count (owed_into ps system.start given no_fall)
 abbrev pub ReadsStart : CaseSystem → List Marked → Cursor → Cursor → Result CoverTree Failure → Type 0
 ReadsStart system ps old new result = ReadsTree system.variables (start_counts system ps) 0 128 old new result
 
--- a place, and so many narrow values
+-- a place, and `n` narrow values
 abbrev pub Values : Type 0
 Values = ℕ × List ℤ
 

@@ -126,7 +126,7 @@ impl Context<'_> {
         Ok(ChoiceTree::NoStep(covers))
     }
 
-    /// A choice with at most `left` splits on a path, counting into its covers, at a place with so many rows.
+    /// A choice with at most `left` splits on a path, counting into its covers, at a place with `known` rows.
     pub fn choice_tree(
         &self,
         cursor: &mut Cursor,

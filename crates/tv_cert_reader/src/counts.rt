@@ -8,7 +8,7 @@ use tv_cert::{Destination, Marked, Node, Targets};
 /// How many targets there may be at most, and falls into one: they have numbers of 32 bits.
 const MOST: usize = (1 << 32) - 1;
 
-/// Whether the nodes have at most so many pieces together.
+/// Whether the nodes have at most `most` pieces together.
 fn joined_within(nodes: &[Node], most: usize) -> bool
     ensures { IsTrue result ↔ (length (flat_map (λ a. a) (map pieces_list nodes.now)) ≤ most) }
 {

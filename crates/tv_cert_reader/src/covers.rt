@@ -102,7 +102,7 @@ impl Context<'_> {
         })
     }
 
-    /// A cover with at most `left` splits on a path, at a place with so many rows; its split rows have so many columns.
+    /// A cover with at most `left` splits on a path, at a place with `known` rows. Its split rows have `width` columns.
     pub fn cover_tree(
         &self,
         cursor: &mut Cursor,

@@ -3,7 +3,7 @@ ghost use Rattle.tv_cert_reader.specs.NumberLines.{head_of};
 
 use tv_lines::Head;
 
-/// A line of numbers, of which it is told how many there are.
+/// A line of numbers whose count is given.
 #[derive(Clone, Copy)]
 pub enum NumberLine {
     Header,

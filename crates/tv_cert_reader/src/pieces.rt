@@ -15,7 +15,7 @@ use crate::rows::{append_rows, room};
 use tv_cert::{Mark, Marked, Pieces};
 use tv_lines::NodeKind;
 
-/// How many ranks a piece has of a node with so many.
+/// How many ranks a piece has, of a node with `ranks` ranks.
 fn rank_count(ranks: u32, mark: Mark) -> u64
     ensures { result ≡ rank_count ranks (is_go mark) }
 {
@@ -35,7 +35,7 @@ fn room_of(rows: u64, ranks: u64, columns: u32) -> usize
 }
 
 impl Context<'_> {
-    /// A piece of a node with so many ranks, which may be done where `done` is true.
+    /// A piece of a node with `ranks` ranks, which may be done where `done` is true.
     fn piece(&self, cursor: &mut Cursor, ranks: u32, done: bool) -> Result<Marked, Failure>
         ensures { ReadsPiece (cases_of self.now.about.now) ranks done cursor.old cursor.new result }
     {

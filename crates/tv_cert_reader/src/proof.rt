@@ -18,7 +18,7 @@ use tv_cert::{Destination, Marked, Owes, Proof, Targets};
 use tv_linear::{Choice, Cover, MAX_SPLITS};
 
 impl Context<'_> {
-    /// A cover of a place with so many rows of so many columns.
+    /// A cover of a place with `known` rows of `columns` columns.
     ///
     /// More targets than can be counted with 32 bits are more than memory holds.
     fn cover(

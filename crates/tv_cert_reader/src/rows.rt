@@ -10,7 +10,7 @@ use crate::number_line::NumberLine;
 use std::alloc::Global;
 use tv_linear::Row;
 
-/// The numbers of a line of this kind that has so many.
+/// The numbers of a line of this kind that has `count` numbers.
 pub fn numbers(
     alloc: Global,
     cursor: &mut Cursor,
@@ -29,7 +29,7 @@ pub fn numbers(
     Ok(numbers)
 }
 
-/// The row of these numbers, the last of which is its constant, over so many columns.
+/// The row of these numbers over `width` columns. The last number is its constant.
 pub fn row_of(numbers: Vec<i64>, width: u32) -> Option<Row>
     requires bounded { width < 2 ^ 32 - 1 }
     requires narrow { All IsNarrow numbers.items }
@@ -43,7 +43,7 @@ pub fn row_of(numbers: Vec<i64>, width: u32) -> Option<Row>
     Some(Row::from_narrow(coefficients, constant))
 }
 
-/// A term over so many columns.
+/// A term over `width` columns.
 fn row(alloc: Global, cursor: &mut Cursor, kind: NumberLine, width: u32) -> Result<Row, Failure>
     requires { width < 2 ^ 32 - 1 }
     ensures { ReadsRow kind width cursor.old cursor.new result }
@@ -55,7 +55,7 @@ fn row(alloc: Global, cursor: &mut Cursor, kind: NumberLine, width: u32) -> Resu
     }
 }
 
-/// For how many parts room is made before they are read, where a line says that so many follow: for 1,024 at most, since the text may
+/// For how many parts room is made before they are read, where a line says that `count` follow: for 1,024 at most, since the text may
 /// not have as many.
 pub fn room(count: u128) -> usize
     ensures { result ≡ min count 1024 }
@@ -63,7 +63,7 @@ pub fn room(count: u128) -> usize
     count.min(1024) as usize
 }
 
-/// So many of them.
+/// `count` terms over `width` columns.
 pub fn rows(
     alloc: Global,
     cursor: &mut Cursor,
@@ -82,7 +82,7 @@ pub fn rows(
     Ok(rows)
 }
 
-/// Reads a row or a rank over so many columns, and puts its numbers after others.
+/// Reads a row or a rank over `width` columns, and puts its numbers after others.
 fn append_row(
     alloc: Global,
     cursor: &mut Cursor,
@@ -98,7 +98,7 @@ fn append_row(
     Ok(())
 }
 
-/// Reads so many of them.
+/// Reads `count` rows or ranks over `width` columns, and puts their numbers after others.
 pub fn append_rows(
     alloc: Global,
     cursor: &mut Cursor,
@@ -116,7 +116,7 @@ pub fn append_rows(
     Ok(())
 }
 
-/// So many lines of multipliers, each of so many.
+/// `count` lines of multipliers, each of `wide` multipliers.
 pub fn lists(
     alloc: Global,
     cursor: &mut Cursor,

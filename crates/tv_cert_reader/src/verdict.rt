@@ -29,7 +29,7 @@ pub fn says_proved(alloc: Global, cursor: &mut Cursor) -> Result<bool, Failure>
     }
 }
 
-/// A place among the pieces at the start, and so many values.
+/// A place among the pieces at the start, and `count` values.
 pub fn values(alloc: Global, cursor: &mut Cursor, count: u32) -> Result<(u64, Vec<i128>), Failure>
     ensures { ReadsValues count cursor.old cursor.new result }
 {

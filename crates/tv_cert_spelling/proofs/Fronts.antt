@@ -18,7 +18,7 @@ behind_first ts us vs ws xs ys e = sym (append_assoc ts us xs) ∙ e ∙ append_
 abbrev pub Told : {T A V : Type 0} → (A → List T) → (A → V) → (A → Type 0) → Type 0
 Told {T} {A} {V} text value P = (a b : A) (xs ys : List T) → P a → P b → text a ++ xs ≡ text b ++ ys → (value a ≡ value b) × (xs ≡ ys)
 
--- so many values of one token each
+-- lists of the same length, whose values have one token each
 module _ {T A : Type 0} (token : A → T) (one : (a b : A) → token a ≡ token b → a ≡ b) where
   pub tokens_told : (vs ws : List A) (xs ys : List T) → length vs ≡ length ws → map token vs ++ xs ≡ map token ws ++ ys → (vs ≡ ws) × (xs ≡ ys)
   tokens_told [] [] xs ys long e = (refl, e)
@@ -29,7 +29,7 @@ module _ {T A : Type 0} (token : A → T) (one : (a b : A) → token a ≡ token
       let more = tokens_told vs ws xs ys (omega (arith, long)) (same_tail (token v) (token w) (map token vs ++ xs) (map token ws ++ ys) e) in
       (λ i. first i ∷ more.0 i, more.1)
 
--- so many values, each of which is told
+-- lists of the same length, where each value is told
 module _ {T A V : Type 0} (text : A → List T) (value : A → V) (P : A → Type 0) (told : Told text value P) where
   pub each_told : (vs ws : List A) (xs ys : List T) → length vs ≡ length ws → All P vs → All P ws → flat_map text vs ++ xs ≡ flat_map text ws ++ ys → (map value vs ≡ map value ws) × (xs ≡ ys)
   each_told [] [] xs ys long p q e = (refl, e)

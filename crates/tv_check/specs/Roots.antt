@@ -17,7 +17,7 @@ abbrev pub ValuesFit : Verdict → List Marked → Type 0
 ValuesFit (Proved start) ps = Unit {0}
 ValuesFit (Disproved piece values) ps = AreOver (length values.items) ps
 
--- the root's obligation is met, or it fails after so many others
+-- the root's obligation is met, or it fails after `seen` others
 abbrev pub SettlesRoot : CaseSystem → Node → Verdict → ℕ → Result (Unit {0}) Failing → Type 0
 SettlesRoot system root verdict seen result =
     MatchResult result (λ done. IsMetEntry (root_entry (about_of system) (pieces_of root) verdict))

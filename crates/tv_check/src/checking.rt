@@ -32,7 +32,7 @@ fn check_start(about: &Cases, root: &Node, start: &Cover, seen: u64) -> Result<(
     }
 }
 
-/// The root's obligation, where it is not met after so many others.
+/// The root's obligation, where it is not met after `seen` others.
 fn root_failing(seen: u64) -> Failing
     requires { seen + 1 < 2 ^ 64 }
     ensures { result ≡ record { number = seen + 1; node = 0; kind = Kind.Root } }

@@ -35,7 +35,7 @@ got (x ∷ xs) zero h = (x, refl)
 got (x ∷ xs) (suc i) h = got xs i (omega (arith, h))
 
 module _ (n : ℕ) (known rows : List Known) (old : Cursor) where
-  -- lines were read for so many of the rows, and it is told whether they show them
+  -- lines were read for the first `i` rows, and `met` says whether they show them
   pub record ShownFirst (i : ℕ) (now : Cursor) (met : Bool) : Type 0 where
     pub lists : List (Vec ℤ)
     pub gathered : Gathered (AreListed (length known + 1)) by_line old i now lists

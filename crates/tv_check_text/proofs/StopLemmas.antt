@@ -53,7 +53,7 @@ module _ (n : ℕ) (known : List Known) (left : ℕ) (all : List LinearCase) (ol
   abbrev IsMet : LinearCase → CoverTree → Type 0
   IsMet c tree = IsMetCover (n + c.draws) no_target (known ++ as_given c.guards) tree
 
-  -- covers of so many of the cases were read, and it is told whether they are met
+  -- covers of the first `k` cases were read, and `met` says whether they are met
   pub record StopsFirst (k : ℕ) (now : Cursor) (met : Bool) : Type 0 where
     pub covers : List CoverTree
     pub zip : AllZip (IsStop n (length known) left) (take k all) covers

@@ -36,7 +36,7 @@ use Rattle.tv_cert.specs.Entering.{entered_listed}
 abbrev pub numbers_in : List (Vec ℤ) → List (List ℤ)
 numbers_in vs = map (λ v. v.items) vs
 
--- Lines of multipliers were read, one for each of these rows. It is told whether they show them where others are known.
+-- Lines of multipliers were read, one for each of these rows. It is reported whether they show them where others are known.
 pub record CheckedLists (n : ℕ) (known rows : List Known) (old new : Cursor) (met : Bool) : Type 0 where
   pub lists : List (Vec ℤ)
   pub many : AreMany (AreNumbers (length known + 1)) (length rows) (numbers_in lists)
@@ -61,7 +61,7 @@ pub record IsEntered (change : Linear → Known) (owed : ℕ → ℕ → Option 
   pub numbers : zs ≡ pos target ∷ pos fall ∷ []
   pub owes : owed target fall ≡ Some (entered_listed change entered)
 
--- a cover was read of a place where these rows are known, and it is told whether it is met there
+-- a cover was read of a place where these rows are known, and it is reported whether it is met there
 pub record CheckedCover (n : ℕ) (owed : ℕ → ℕ → Option (List Known)) (known : List Known) (left : ℕ) (old new : Cursor) (met : Bool) : Type 0 where
   pub tree : CoverTree
   pub within : IsCoverWithin n (owed_count owed) (length known) left tree
@@ -72,7 +72,7 @@ abbrev pub ChecksCover : ℕ → (ℕ → ℕ → Option (List Known)) → List 
 ChecksCover n owed known left old new (Ok met) = CheckedCover n owed known left old new met
 ChecksCover n owed known left old new (Err f) = FailsBy (cover false left n (length known) (owed_count owed)) old f
 
--- covers were read where the row is met and where its denial is, and it is told whether both are met
+-- covers were read where the row is met and where its denial is, and it is reported whether both are met
 pub record CheckedSides (n : ℕ) (owed : ℕ → ℕ → Option (List Known)) (known : List Known) (left : ℕ) (row : Linear) (old new : Cursor) (met : Bool) : Type 0 where
   pub middle : Cursor
   pub inside : Bool
@@ -94,7 +94,7 @@ ChecksSides n owed known left row old new (Err f) = FailsBy (both (cover_side n 
 abbrev pub ChecksStop : ℕ → List Known → ℕ → LinearCase → Cursor → Cursor → Result Bool Failure → Type 0
 ChecksStop n known left c old new result = ChecksCover (n + c.draws) no_target (known ++ as_given c.guards) left old new result
 
--- such a cover was read for each of these cases, and it is told whether all are met
+-- such a cover was read for each of these cases, and it is reported whether all are met
 pub record CheckedStops (n : ℕ) (known : List Known) (left : ℕ) (cases : List LinearCase) (old new : Cursor) (met : Bool) : Type 0 where
   pub covers : List CoverTree
   pub zip : AllZip (IsStop n (length known) left) cases covers
@@ -105,7 +105,7 @@ abbrev pub ChecksStops : ℕ → List Known → ℕ → List LinearCase → Curs
 ChecksStops n known left cases old new (Ok met) = CheckedStops n known left cases old new met
 ChecksStops n known left cases old new (Err f) = FailsBy (mapped (λ all. tt {0}) (each (stop_cover false left n (length known)) cases)) old f
 
--- a choice was read at a piece where these rows are known, and it is told whether it is met there
+-- a choice was read at a piece where these rows are known, and it is reported whether it is met there
 pub record CheckedChoice (system : CaseSystem) (p : Marked) (stop : Bool) (destination : Destination) (known : List Known) (left : ℕ) (old new : Cursor) (met : Bool) : Type 0 where
   pub tree : ChoiceTree
   pub within : IsChoiceWithin system p stop destination (length known) left tree
@@ -116,7 +116,7 @@ abbrev pub ChecksChoice : CaseSystem → Marked → Bool → Destination → Lis
 ChecksChoice system p stop destination known left old new (Ok met) = CheckedChoice system p stop destination known left old new met
 ChecksChoice system p stop destination known left old new (Err f) = FailsBy (choice false left (choosing_of system p stop destination) (length known)) old f
 
--- choices were read where the row is met and where its denial is, and it is told whether both are met
+-- choices were read where the row is met and where its denial is, and it is reported whether both are met
 pub record CheckedChoiceSides (system : CaseSystem) (p : Marked) (stop : Bool) (destination : Destination) (known : List Known) (left : ℕ) (row : Linear) (old new : Cursor) (met : Bool) : Type 0 where
   pub middle : Cursor
   pub inside : Bool
@@ -134,7 +134,7 @@ ChecksChoiceSides system p stop destination known left row old new (Err f) = Fai
 
 -- ---- what is owed
 
--- a proof of what is owed was read, and it is told whether it meets that
+-- a proof of what is owed was read, and it is reported whether it meets that
 pub record CheckedProof (o : Owed) (old new : Cursor) (met : Bool) : Type 0 where
   pub proof : Proof
   pub is_proof : ProofShape o proof

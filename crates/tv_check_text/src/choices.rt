@@ -140,7 +140,7 @@ impl ChoiceCheck<'_> {
         Ok(holds && fails)
     }
 
-    /// Whether the choice that comes next is met at a place with so many rows. At most `left` splits may lie on a path, counting into
+    /// Whether the choice that comes next is met at a place with `known` rows. At most `left` splits may lie on a path, counting into
     /// its covers.
     ///
     /// It is read to its end also where a part of it is not met.

@@ -108,7 +108,7 @@ impl Covering<'_, '_> {
         Ok(holds && fails)
     }
 
-    /// Whether the cover that comes next is met at a place with so many rows. At most `left` splits may lie on a path.
+    /// Whether the cover that comes next is met at a place with `known` rows. At most `left` splits may lie on a path.
     ///
     /// It is read to its end also where a part of it is not met.
     #[cycle(is_met)]

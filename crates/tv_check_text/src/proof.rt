@@ -19,7 +19,7 @@ use tv_cert_reader::{Context, Cursor, Failure, are_few, chosen_are_few};
 use tv_linear::{MAX_SPLITS, Rows};
 use tv_refute::{Change, Frames, Terms};
 
-/// Whether the cover that comes next is met at a place with so many rows of so many columns.
+/// Whether the cover that comes next is met at a place with `known` rows of `covering.columns` columns.
 ///
 /// More targets than can be counted with 32 bits are more than memory holds.
 fn cover_is_met(
@@ -125,7 +125,7 @@ fn is_chosen(
     choosing.is_met(cursor, MAX_SPLITS, &place, rows.len() as u128)
 }
 
-/// Reads a proof of what is owed, and tells whether it meets that.
+/// Reads a proof of what is owed, and says whether it meets that.
 pub fn proof_is_met(context: &Context, cursor: &mut Cursor, owes: &Owes) -> Result<bool, Failure>
     requires { OwedIn (cases_of context.now.about.now) owes.now }
     ensures { ChecksProof (owed_by (cases_of context.now.about.now) owes.now) cursor.old cursor.new result }
@@ -147,7 +147,7 @@ pub fn proof_is_met(context: &Context, cursor: &mut Cursor, owes: &Owes) -> Resu
     }
 }
 
-/// Reads a cover of the start by the pieces of the root, and tells whether it is met.
+/// Reads a cover of the start by the pieces of the root, and says whether it is met.
 pub fn start_is_covered(
     context: &Context,
     cursor: &mut Cursor,

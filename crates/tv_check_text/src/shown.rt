@@ -8,7 +8,7 @@ use tv_cert::OwedRows;
 use tv_cert_reader::{Cursor, Failure, NumberLine, numbers};
 use tv_refute::Frames;
 
-/// Reads a line of multipliers for each of the rows, and tells whether each line shows its row.
+/// Reads a line of multipliers for each of the rows, and says whether each line shows its row.
 pub fn rows_are_shown(
     alloc: Global,
     cursor: &mut Cursor,

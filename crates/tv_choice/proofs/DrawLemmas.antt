@@ -50,7 +50,7 @@ even_term n (pos (suc (suc k))) rest t e h = cc
 even_term n (negsuc zero) rest t e h = ap columns (sym (some_same rest t h)) ∙ e
 even_term n (negsuc (suc k)) rest t e h = cc
 
--- so many terms over n columns
+-- `count` terms over n columns
 pub record AreTermsFor (n count : ℕ) (draws : List Linear) : Type 0 where
   pub many : length draws ≡ count
   pub even : All (λ r. columns r ≡ n) draws

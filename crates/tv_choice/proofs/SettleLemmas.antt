@@ -120,7 +120,7 @@ way_leads n q above w xs h e met = record {
     rows : All (IsMet (xs ++ ds)) (case_rows c (piece_rows h.piece))
     rows = put_met n w.draws.items xs (case_rows c (piece_rows h.piece)) e (subst (All (IsMet xs)) h.exact met)
 
--- rows that are shown are met by each whole point
+-- rows that are shown are met by each integer point
 pub shown_met : (n : ℕ) (rows owed : List Linear) (lists : List (List ℤ)) (xs : List ℤ) → AreShown n rows owed lists → IsWholePoint n rows xs → All (IsMet xs) owed
 shown_met n rows [] lists xs h p = All-nil (IsMet xs)
 shown_met n rows (r ∷ owed) [] xs h p = absurd h
@@ -297,13 +297,13 @@ module _ (n : ℕ) (q : Query) where
       (let m = All-head (IsMet xs) r rows h in let o : r.constant *ℤ pos 1 ≡ r.constant = omega (arith, ints) in omega (arith, ints, m, o))
       (whole_scaled rows xs (All-tail (IsMet xs) r rows h))
 
-  -- a way that a whole point has is not excluded
+  -- a way that an integer point has is not excluded
   pub never_excluded : (rows : List Linear) (xs : List ℤ) (w : Way) → IsGoing n q rows xs → IsWayFrom n q rows xs w → IsShut n rows (way_rows w) → ⊥
   never_excluded rows xs w g f (r, among, none) =
       let met = subst (IsMet xs) among.2 (f.met among.0 r among.1) in
       none record { values = xs; scale = pos 1; size = g.inside.width; meets = record { positive = omega (arith, ints); met = whole_scaled (rows ++ r ∷ []) xs (All-push (IsMet xs) rows r g.inside.met met) } }
 
-  -- ---- the whole point of rows
+  -- ---- the integer point of rows
 
   pub whole_going : (rows : List Linear) (values : List ℤ) (scale : ℤ) (xs : List ℤ) → IsPointAt n rows values scale → AreDivided n values scale xs → (IsTrue q.stop → ⊥) → IsGoing n q rows xs
   whole_going rows values scale xs h d s = record {

@@ -1,4 +1,4 @@
--- Steps from a whole point.
+-- Steps from an integer point.
 use Rattle.std.proofs.Common.{◌≡◌, ℕ, ◌+◌, List, [], ◌++◌, length, map, All, sym, ap, ◌∙◌, subst, ℤ}
 use Rattle.tv_linear.specs.Linear.{Linear, columns, value, IsMet}
 use Rattle.tv_farkas.specs.Paths.{IsWholePoint}
@@ -28,7 +28,7 @@ module _ (n : ℕ) (q : Query) (above : List Linear) (e : Entry) (h : IsEntered 
   pub asked_inner : (asked : List Linear) → asked ≡ fixes (n + e.case.now.draws) 0 xs ++ rows → IsInner n q above (n + e.case.now.draws) asked
   asked_inner asked g = subst (IsInner n q above (n + e.case.now.draws)) (sym (asked_is asked g)) (stepping (case_view e.case.now) e.piece.now xs (in_way n q (case_view e.case.now) e.piece.now e.taken e.target rows h.taken h.from h.target are) here)
 
-  -- no whole point of them
+  -- no integer point of them
   pub no_step : (asked : List Linear) → asked ≡ fixes (n + e.case.now.draws) 0 xs ++ rows → ((zs : List ℤ) → IsWholePoint (n + e.case.now.draws) asked zs → ⊥) → NoStepTo n xs (case_view e.case.now) e.piece.now
   no_step asked g none ds many guards met =
       none (xs ++ ds) (subst (λ rs. IsWholePoint (n + e.case.now.draws) rs (xs ++ ds)) (sym g) (asked_met n (case_view e.case.now) (piece_rows e.piece.now) rows xs ds are owed size many guards met))
@@ -37,11 +37,11 @@ module _ (n : ℕ) (q : Query) (above : List Linear) (e : Entry) (h : IsEntered 
   point_terms asked zs draws g origin t =
       at_point draws above [] xs zs (sym (append-nil above)) here (subst (λ rs. IsWholePointOf (n + e.case.now.draws) rs zs) (asked_is asked g) origin) (subst (λ rs. AreTermsAt n e.case.now.draws rs zs draws) are.exact t)
 
-  -- what is too wide at a whole point of them
+  -- what is too wide at an integer point of them
   pub wide_there : (asked : List Linear) (zs : List ℤ) (column : ℕ) → asked ≡ fixes (n + e.case.now.draws) 0 xs ++ rows → IsWholePointOf (n + e.case.now.draws) asked zs → IsWideAtPoint n e.case.now.draws rows zs column → IsWideHere n q above column
   wide_there asked zs column g origin w = draw_wide n q above e rows w.draws h are (point_terms asked zs w.draws g origin w.terms) column w.wide
 
-  -- a whole point of them
+  -- an integer point of them
   pub stepping_way : (asked : List Linear) (zs : List ℤ) (w : Way) → asked ≡ fixes (n + e.case.now.draws) 0 xs ++ rows → IsWholePoint (n + e.case.now.draws) asked zs → IsWholePointOf (n + e.case.now.draws) asked zs → IsWayAt n e.case.now.draws e.taken e.target rows zs w → IsWayFrom n q above xs w
   stepping_way asked zs w g point origin t =
       let p = subst (λ rs. IsWholePoint (n + e.case.now.draws) rs zs) g point in

@@ -34,7 +34,7 @@ GivesAlone n d r j t =
     ((drop n r.coefficients ≡ unit d j) × (t ≡ opposite (front n r)))
     ⊎ ((drop n r.coefficients ≡ map neg_ℤ (unit d j)) × (t ≡ front n r))
 
--- a term for draw j at a whole point of the variables and d draws: its number there, or the term that a row gives whose value there is 0
+-- a term for draw j at an integer point of the variables and d draws: its number there, or the term that a row gives whose value there is 0
 pub data IsTermAt (n d : ℕ) (rows : List Linear) (zs : List ℤ) (j : ℕ) : Linear → Type 0 where
   number : IsTermAt n d rows zs j (constant_row n (get_or zs (n + j) (pos 0)))
   tight : (r t : Linear) → Contains rows r → GivesAlone n d r j t → value r zs ≡ pos 0 → IsTermAt n d rows zs j t
@@ -44,7 +44,7 @@ pub record AreTermsAt (n d : ℕ) (rows : List Linear) (zs : List ℤ) (draws : 
   pub many : length draws ≡ d
   pub each : (j : ℕ) (other : Linear) → j < d → IsTermAt n d rows zs j (get_or draws j other)
 
--- Terms for the draws of a case that is taken into a piece: those that its rows give, or terms at a whole point from which the case leads
+-- Terms for the draws of a case that is taken into a piece: those that its rows give, or terms at an integer point from which the case leads
 -- there; the values of the variables were taken at these rows or at some before them.
 pub data AreDrawTerms (n : ℕ) (q : Query) (above : List Linear) (c : LinearCase) (p : Piece) : List Linear → Type 0 where
   by_rows : (draws : List Linear) → Contains (draw_choices c.draws n (case_rows c (piece_rows p))) draws → AreDrawTerms n q above c p draws
@@ -67,9 +67,9 @@ pub record IsWayRows (n : ℕ) (q : Query) (above rows : List Linear) : Type 0 w
   pub same : rows ≡ put_rows n draws (case_rows case (piece_rows piece))
   pub narrow : All IsNarrowRow rows
 
--- The split is at a row of a way, of which each row is met by some scaled point of the rows above; some point does not meet this row, and
--- its denial is narrow. The side where the row is denied is settled first: where the row is on the path, each whole point of the rows above
--- that meets the denial is no hole.
+-- The split is at a row of a way. Each row of the way is met by some scaled point of the rows above. Some point does not meet the row
+-- `at`, and its denial is narrow. The side where the row is denied is settled first: where the row is on the path, each integer point of the
+-- rows above that meets the denial is no hole.
 pub record IsRowSplit (n : ℕ) (q : Query) (above : List Linear) (row : Linear) : Type 0 where
   pub rows : List Linear
   pub way : IsWayRows n q above rows
@@ -103,8 +103,8 @@ pub record IsSplit (n : ℕ) (q : Query) (above : List Linear) (branch : Branch)
 abbrev pub IsChoicePath : ℕ → Query → List Linear → List Branch → Type 0
 IsChoicePath n q rows path = IsPath (IsSplit n q) rows path
 
--- The lists over the columns of a case of which it is asked at the rows above whether they have a whole point: whether some state there
--- starts the case, and whether from whole values the case leads into a piece.
+-- The lists over the columns of a case that are asked about at the rows above. The question is whether they have an integer point: whether
+-- some state there starts the case, and whether from whole values the case leads into a piece.
 pub data IsInner (n : ℕ) (q : Query) (above : List Linear) : ℕ → List Linear → Type 0 where
   starting : (c : LinearCase) → IsTrue q.stop → Contains q.system.cases c → c.from ≡ q.location → IsInner n q above (n + c.draws) (starting_rows above c)
   stepping : (c : LinearCase) (p : Piece) (xs : List ℤ) → IsWayIn n q c p → IsPointHere n q above xs → IsInner n q above (n + c.draws) (stepping_rows n xs c p)

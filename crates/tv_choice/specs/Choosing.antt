@@ -31,17 +31,17 @@ IsChosen n q rows (Tree choice) =
     (known : List Known) → AreKnownAs rows known → IsMetChoice n q.system.cases q.location q.stop (region_owes n q.pieces) known choice
 IsChosen n q rows (Hole values) = IsWholePoint n rows values.items × IsHole q values.items
 
--- a tree is given only where no whole point of the rows is a hole
+-- a tree is given only where no integer point of the rows is a hole
 abbrev pub HasNoHole : ℕ → Query → List Linear → Chosen → Type 0
 HasNoHole n q rows (Tree choice) = (xs : List ℤ) → IsWholePoint n rows xs → IsServed q xs
 HasNoHole n q rows (Hole values) = Unit {0}
 
--- the tree has the shape of a choice at so many rows
+-- the tree has the shape of a choice at `count` rows
 abbrev pub HasShape : ℕ → Query → ℕ → Chosen → Type 0
 HasShape n q count (Tree choice) = ChoiceShape n q.system.cases q.location q.stop (region_owes n q.pieces) count choice
 HasShape n q count (Hole values) = Unit {0}
 
--- at most so many splits lie on a path of a tree, counting into the covers
+-- at most `most` splits lie on a path of a tree, counting into the covers
 abbrev pub IsShallow : ℕ → Chosen → Type 0
 IsShallow most (Tree choice) = choice_splits choice ≤ most
 IsShallow most (Hole values) = Unit {0}

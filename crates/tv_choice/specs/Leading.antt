@@ -20,7 +20,7 @@ piece_rows p = p.poly.rows.items
 abbrev pub pieces_at : List Piece → ℕ → List Piece
 pieces_at ps l = filter (λ p. place_of p == l) ps
 
--- what a choice is asked: whether from a location a step leads into one of the pieces; stop tells whether a state without a step may stop
+-- what a choice is asked: whether from a location a step leads into one of the pieces; stop says whether a state without a step may stop
 pub record Query : Type 0 where
   pub system : CaseSystem
   pub location : ℕ

@@ -104,7 +104,7 @@ IsBest n rows ways (best.Take way lists) = (w : Way) × IsAt ways way w × AreSh
 IsBest n rows ways (best.Split way row) = (w : Way) × IsAt ways way w × IsOpen n rows (way_rows w) row × NoneShown n rows ways
 IsBest n rows ways best.Nothing = AllShut n rows ways × NoneShown n rows ways
 
--- what the ways come to, one of which has this open row
+-- what the ways come to, where one of them has this open row
 abbrev pub IsOpened : ℕ → ℕ → Best → Best → Type 0
 IsOpened way row (best.Take w lists) b = b ≡ best.Take w lists
 IsOpened way row (best.Split w r) b = b ≡ best.Split w r

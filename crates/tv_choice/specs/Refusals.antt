@@ -51,7 +51,7 @@ pub data IsWideHere (n : ℕ) (q : Query) (above : List Linear) (column : ℕ) :
   drawing : (c : LinearCase) (p : Piece) (draws : List Linear) → IsWayIn n q c p → AreDrawTerms n q above c p draws → IsWidePut (put_terms n draws) (case_rows c (piece_rows p)) column → IsWideHere n q above column
   denying : (rows : List Linear) → IsWayRows n q above rows → IsWideIn n above rows column → IsWideHere n q above column
 
--- what a refusal shows at the rows above, where so many splits are left and none is made there
+-- what a refusal shows at the rows above, where `left` splits are left and none is made there
 abbrev pub IsFaultHere : ℕ → Query → List Linear → ℕ → ℕ → CoverFault → Type 0
 IsFaultHere n q above pivots left (Splits path) = ((path.items ≡ []) ⊎ IsInnerPath n q above path.items) × (length path.items ≡ left)
 IsFaultHere n q above pivots left (Solve kept fault) = IsUnsolvedHere n q above kept.items pivots fault
@@ -79,7 +79,7 @@ pub data IsWideChoice (n : ℕ) (q : Query) (rows : List Linear) (column : ℕ) 
   target : IsWideTarget n q column → IsWideChoice n q rows column
   behind : (own : List Branch) → IsChoicePath n q rows own → IsWideHere n q (rows_after rows own) column → IsWideChoice n q rows column
 
--- what a refusal shows, for so many pivots and splits
+-- what a refusal shows, for `pivots` pivots and `most` splits
 abbrev pub IsChoiceFault : ℕ → Query → List Linear → ℕ → ℕ → CoverFault → Type 0
 IsChoiceFault n q rows pivots most (Splits path) = IsJoinedPath n q rows path.items × (length path.items ≡ most)
 IsChoiceFault n q rows pivots most (Solve kept fault) = IsUnsolved n q rows kept.items pivots fault

@@ -21,7 +21,7 @@ use Rattle.tv_choice.specs.Leading.{Query, region_owes, IsHole, IsServed, Leads}
 use Rattle.tv_choice.specs.ChoicePaths.{IsPointHere, IsSplit}
 use Rattle.tv_choice.specs.Same.{AreKnown}
 
--- the tree is a met choice at the rows, of which no whole point is a hole
+-- The tree is a met choice at the rows. No integer point of the rows is a hole.
 pub record IsTreeAt (n : ℕ) (q : Query) (rows : List Linear) (left : ℕ) (tree : ChoiceTree) : Type 0 where
   pub met : (known : List Known) → AreKnown rows known → IsMetChoice n q.system.cases q.location q.stop (region_owes n q.pieces) known tree
   pub shallow : choice_splits tree ≤ left
@@ -54,14 +54,14 @@ IsTakeOf w all (NoStep covers) = ⊥
 IsTakeOf w all (Take taken target fall draws lists) =
     (taken ≡ w.taken) × (target ≡ w.target) × (fall ≡ 0) × (draws.items ≡ w.draws.items) × (lists ≡ all) × All IsNarrow w.draws.items
 
--- a whole point of the rows, from which some step leads where a state without a step may stop
+-- an integer point of the rows, from which some step leads where a state without a step may stop
 pub record IsGoing (n : ℕ) (q : Query) (rows : List Linear) (xs : List ℤ) : Type 0 where
   pub inside : IsWholePoint n rows xs
   pub short : AreShort xs
   pub leads : IsTrue q.stop → Leads q.system q.location xs
   pub here : IsPointHere n q rows xs
 
--- The two sides of a split: the second has the numbers of the denial of the first, and may stand on a path once each whole point of the
+-- The two sides of a split: the second has the numbers of the denial of the first, and may stand on a path once each integer point of the
 -- first is served.
 pub record AreHalves (n : ℕ) (q : Query) (rows : List Linear) (halves : Halves) : Type 0 where
   pub first_even : columns halves.first.row ≡ n

@@ -19,7 +19,7 @@ pub record IsStanding (n : ℕ) (q : Query) (s : Standing) : Type 0 where
   pub short : AreShort s.point.now
   pub here : IsPointHere n q s.rows.now s.point.now
 
--- the way of these rows of a case, with terms for its draws at a whole point
+-- the way of these rows of a case, with terms for its draws at an integer point
 pub record IsWayAt (n d taken target : ℕ) (rows : List Linear) (zs : List ℤ) (w : Way) : Type 0 where
   pub draws : List Linear
   pub terms : AreTermsAt n d rows zs draws

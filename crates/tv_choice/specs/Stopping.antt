@@ -49,7 +49,7 @@ pub record AreStopTrees (n : ℕ) (q : Query) (rows : List Linear) (left : ℕ) 
   pub narrow : All CoverNarrow covers
   pub none : (xs : List ℤ) → IsWholePoint n rows xs → Leads q.system q.location xs → ⊥
 
--- a whole point of the rows from which some step leads
+-- an integer point of the rows from which some step leads
 pub record IsLeading (n : ℕ) (q : Query) (rows : List Linear) (xs : List ℤ) : Type 0 where
   pub inside : IsWholePoint n rows xs
   pub short : AreShort xs

@@ -34,7 +34,8 @@ abbrev pub terms_given : ℕ → List Linear → List (List Linear)
 terms_given n [] = []
 terms_given n (r ∷ rows) = one_term (term_of n r) ++ terms_given n rows
 
--- the lists of terms for so many draws that the rows of a case give: one list without draws, a term of a row for one draw
+-- The lists of terms for draws that the rows of a case give: one list without draws, a term of a row for one draw. The first argument
+-- is the number of draws.
 abbrev pub draw_choices : ℕ → ℕ → List Linear → List (List Linear)
 draw_choices zero n rows = [] ∷ []
 draw_choices (suc zero) n rows = terms_given n rows

@@ -37,13 +37,13 @@ use tv_linear::{Choice, ChoiceTree, Piece, Region, Row, push_item};
 /// What rows have.
 #[derive(Drop)]
 enum Found {
-    /// From each of their whole points a step, by this tree.
+    /// From each of their integer points a step, by this tree.
     Tree(ChoiceTree),
-    /// A whole point from which none leads into the pieces.
+    /// An integer point from which none leads into the pieces.
     Hole(Vec<i128>),
 }
 
-/// Settles rows below which so many splits may lie.
+/// Settles rows below which at most `left` splits may lie.
 #[cycle(choosing)]
 fn settle(
     question: &Question,
@@ -149,7 +149,7 @@ fn go_or_split(
     }
 }
 
-/// Settles rows at which each way is excluded, by a whole point of them.
+/// Settles rows at which each way is excluded, by an integer point of them.
 #[cycle(choosing)]
 fn go_on(
     question: &Question,
@@ -288,19 +288,19 @@ fn settle_side(
     }
 }
 
-/// From each whole point of a piece a step into a region, or a whole point from which there is none.
+/// From each integer point of a piece a step into a region, or an integer point from which there is none.
 ///
 /// The rows of the piece and of the region are over the variables. A tree is a proof tree as a certificate holds it. It
 /// takes cases into the pieces of the region, with whole terms over the variables for their draws and with the fall 0.
-/// `stop` tells whether a state without any step may stop: only then a tree shows at some points that no case can be
+/// `stop` says whether a state without any step may stop: only then a tree shows at some points that no case can be
 /// taken, and only then some step leads somewhere from a hole.
 ///
 /// At the rows with the splits above it takes a leaf where they have no point, or where each row of a way to step is
 /// met by all of their points. The ways are those of the cases without draws, and of the cases with one draw, for which
 /// a row of the case with the coefficient 1 or -1 gives the term; of ways with the same rows it keeps one. Else it
-/// splits at a row of a way of which each row is met by some point, and settles the side where the row is denied first.
-/// Where each way is excluded, it takes a whole point of the rows, and splits below and above the first coordinate of
-/// their point that is not whole (the branching of integer programming, after Land and Doig 1960). From the whole point
+/// splits at a row of a way whose rows are each met by some point, and settles the side where the row is denied first.
+/// Where each way is excluded, it takes an integer point of the rows, and splits below and above the first coordinate of
+/// their point that is not whole (the branching of integer programming, after Land and Doig 1960). From the integer point
 /// it looks for whole draws by which some case leads into a piece: with a term for each draw the case is a further way,
 /// and else the point is a hole. That term is of a row of the case with the coefficient 1 or -1 at the draw, and 0 at
 /// the others, whose value there is 0, and where there is none it is the number.

@@ -67,7 +67,7 @@ fn terms_given(alloc: Global, rows: &[Row], columns: u32) -> Result<Vec<Vec<Row>
     Ok(lists)
 }
 
-/// The lists of terms for so many draws that the rows of a case give: one without terms where there are no draws, one for each row that
+/// The lists of terms for `draws` draws that the rows of a case give: one without terms where there are no draws, one for each row that
 /// gives a term where there is one draw, and else none.
 pub fn draw_choices(
     alloc: Global,
@@ -102,7 +102,7 @@ fn is_tight(row: &Row, values: &[i128]) -> bool
     }
 }
 
-/// The term that a row gives for one of so many draws, where it has the coefficient 1 or -1 at it and 0 at the others.
+/// The term that a row gives for one of `draws` draws, where it has the coefficient 1 or -1 at it and 0 at the others.
 fn term_alone(
     alloc: Global,
     row: &Row,
@@ -128,7 +128,7 @@ fn term_alone(
     Ok(None)
 }
 
-/// The term for a draw at a whole point: that of the first row whose value there is 0 and that gives one, and else its number there.
+/// The term for a draw at an integer point: that of the first row whose value there is 0 and that gives one, and else its number there.
 fn term_for(
     alloc: Global,
     rows: &[Row],
@@ -154,7 +154,7 @@ fn term_for(
     Row::narrow_number(alloc, columns, values[(columns + draw) as usize])
 }
 
-/// A term for each of so many draws at a whole point.
+/// A term for each of `draws` draws at an integer point.
 pub fn terms_at(
     alloc: Global,
     rows: &[Row],

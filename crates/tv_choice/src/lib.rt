@@ -1,4 +1,4 @@
-//! From each whole point of a piece a step into a region, by a proof tree, or a whole point from which no step leads there.
+//! From each integer point of a piece a step into a region, by a proof tree, or an integer point from which no step leads there.
 #![tactic(auto)]
 
 mod choosing;

@@ -1,4 +1,4 @@
-// Whether some step leads from a whole point into the pieces.
+// Whether some step leads from an integer point into the pieces.
 
 ghost use Rattle.std.specs.Prelude.{◌≡◌, ◌+◌, ◌-◌, ◌^◌, ◌<◌, ◌≤◌, ◌++◌, All, length, IfOk, slice_get, Some};
 ghost use Rattle.std.specs.Result.{IfErr};
@@ -23,7 +23,7 @@ use tv_cover::{Emptied, empty};
 use tv_farkas::{Budget, CoverFault};
 use tv_linear::{Row, push_copies};
 
-/// A whole point of rows, and how many splits are left.
+/// An integer point of rows, and how many splits are left.
 #[derive(Drop)]
 pub struct Standing<'a> {
     pub rows: &'a [Row],
@@ -48,7 +48,7 @@ fn stepping_rows(
     Ok(all)
 }
 
-/// The way of these rows of a case, with terms for the draws at a whole point.
+/// The way of these rows of a case, with terms for the draws at an integer point.
 fn way_at(
     question: &Question,
     entry: &Entry,
@@ -74,7 +74,7 @@ fn way_at(
     }
 }
 
-/// The way by a case into a piece that a whole point has, if there is one.
+/// The way by a case into a piece that an integer point has, if there is one.
 fn step_to(
     question: &Question,
     standing: &Standing,
@@ -111,7 +111,7 @@ fn step_to(
     }
 }
 
-/// The way by a case into some piece that a whole point has, if there is one.
+/// The way by a case into some piece that an integer point has, if there is one.
 fn step_by(
     question: &Question,
     standing: &Standing,
@@ -145,7 +145,7 @@ fn step_by(
     Ok(None)
 }
 
-/// A way that a whole point has, if some step leads from it into the pieces.
+/// A way that an integer point has, if some step leads from it into the pieces.
 pub fn step_into(question: &Question, standing: &Standing) -> Result<Option<Way>, CoverFault>
     requires standing { IsStanding question.now.columns (query_of question.now) standing.now }
     ensures step { let s = standing.now in

@@ -22,7 +22,7 @@ use tv_linear::{Cover, Row, all_padded, push_copies, push_item};
 pub enum Stopped {
     /// None does: a cover without targets for each case from the location.
     Nowhere(Vec<Cover>),
-    /// From this whole point of the rows some step does.
+    /// From this integer point of the rows some step does.
     Somewhere(Vec<i128>),
 }
 
@@ -51,7 +51,7 @@ fn stop_by(question: &Question, rows: &[Row], case: &Case, left: u32) -> Result<
     }
 }
 
-/// Covers that show that no case can be taken, or a whole point of the rows that can take one.
+/// Covers that show that no case can be taken, or an integer point of the rows that can take one.
 pub fn stop(question: &Question, rows: &[Row], left: u32) -> Result<Stopped, CoverFault>
     requires left { left ≤ 128 }
     requires even { AreEven question.now.columns rows.now }

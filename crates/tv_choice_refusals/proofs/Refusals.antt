@@ -170,7 +170,7 @@ module _ (about : CaseSystem) (base : List Placed) (h l : ℕ) (stop : Bool) (pi
     | inl known ↦
         let found = Contains-from_map (padded_row c.draws) above r known in
         subst (λ x. IsListed about base (over_case c) (suc h) x) found.2
-        (listed_over about base c (suc h) found.0 (subst (λ k. IsListed about base (at_location k) (suc h) found.0) (sym from) (listed found.0 found.1)))
+        (listed_over about base c (suc h) found.0 among (subst (λ k. IsListed about base (at_location k) (suc h) found.0) (sym from) (listed found.0 found.1)))
     | inr g ↦ unsplit r (derived r (guard c r among g))
   ]
 

@@ -17,13 +17,14 @@ use Rattle.tv_derived.specs.Questions.{IsSpentOnChoice}
 abbrev pub asked_of : CaseSystem → ℕ → Bool → List Piece → Query
 asked_of about l stop pieces = record { system = about; location = l; stop = stop; pieces = pieces }
 
--- a path that has spent so many splits on a choice into at most so many pieces at each location, where a state without a step may stop or not
+-- A path that has spent `splits` splits on a choice into at most `many` pieces at each location. `stop` says whether a state without a step
+-- may stop.
 abbrev pub IsSpentOnSteps : CaseSystem → List Placed → ℕ → Bool → ℕ → ℕ → List Branch → Type 0
 IsSpentOnSteps about base many stop h splits path =
     IsSpentOnChoice about base (λ k. k ≤ many) h splits (λ l pieces rows p. IsJoinedPath about.variables (asked_of about l stop pieces) rows p) path
 
 -- The rows of the piece are derived or fix variables, the rows of the pieces that are led into are derived with one case less on the way,
--- and there are at most so many of these at each location; all are over the variables.
+-- and there are at most `many` of these at each location; all are over the variables.
 pub record IsHanded (about : CaseSystem) (base : List Placed) (many h l : ℕ) (rows : List Linear) (pieces : List Piece) : Type 0 where
   pub ambient : AreUnsplit about base (at_location l) (suc h) rows
   pub into : ArePiecesDerived about base h pieces

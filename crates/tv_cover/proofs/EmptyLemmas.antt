@@ -1,4 +1,4 @@
--- A cover without targets shows that rows have no whole point.
+-- A cover without targets shows that rows have no integer point.
 use Rattle.std.proofs.Common.{◌≡◌, inl, inr, ℕ, zero, suc, List, [], ◌∷◌, ◌++◌, Option, None, Some, Vec, arith, ap, ◌∙◌, subst, ℤ, slice_get}
 use Rattle.tv_linear.specs.Linear.{Linear, columns}
 use Rattle.tv_linear.specs.declared.cover.CoverTree.{CoverTree, Split', Empty, Into}

@@ -59,11 +59,11 @@ in_target (l ∷ lists) (suc k) zero rows xs e h =
       met = t.met;
     }
 
--- a whole point of the known rows of a met cover lies in a target
+-- an integer point of the known rows of a met cover lies in a target
 pub known_covered : (n : ℕ) (lists : List (List Linear)) (known : List Known) (tree : CoverTree) (xs : List ℤ) → IsMetCover n (owed_lists lists) known tree → length xs ≡ n → All (IsKnownMet xs) known → IsInTarget lists xs
 known_covered n lists known tree xs h e m = (let c = covered n (owed_lists lists) known tree xs h e m in in_target lists c.0 c.1 c.2 xs c.3 c.4)
 
--- each whole point of the rows above that meets a side with a tree lies in a target
+-- each integer point of the rows above that meets a side with a tree lies in a target
 pub side_covered : (n : ℕ) (lists : List (List Linear)) (rows : List Linear) (left : ℕ) (old new : Place) (row : Linear) (tree : CoverTree) → IsSideTree n lists rows left old new row tree → (xs : List ℤ) → IsWholePoint n (rows_after rows old.path.items) xs → IsMet xs row → IsInTarget lists xs
 side_covered n lists rows left old new row tree h xs p m =
     let path = rows_of old.path.items in

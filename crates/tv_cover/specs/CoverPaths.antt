@@ -15,7 +15,7 @@ abbrev pub IsShut : ℕ → List Linear → List Linear → Type 0
 IsShut n above rows = (r : Linear) × Contains rows r × (HasPoint n (above ++ r ∷ []) → ⊥)
 
 -- The split is at a row of a target, which some scaled point of the rows above meets and some does not; its denial is
--- narrow. The side where the row is denied is settled first: where the row of the target is on the path, each whole
+-- narrow. The side where the row is denied is settled first: where the row of the target is on the path, each integer
 -- point of the rows above that meets the denial lies in a target.
 pub record IsRowSplit (n : ℕ) (lists : List (List Linear)) (above : List Linear) (row : Linear) : Type 0 where
   pub at : Linear

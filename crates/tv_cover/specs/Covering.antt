@@ -19,7 +19,7 @@ use Rattle.tv_cover.specs.Trying.{IsWideAt}
 
 -- ---- answers
 
--- a whole point of the rows outside every target
+-- an integer point of the rows outside every target
 pub record IsHole (n : ℕ) (lists : List (List Linear)) (rows : List Linear) (xs : List ℤ) : Type 0 where
   pub point : IsWholePoint n rows xs
   pub outside : All (IsOutside xs) lists
@@ -29,12 +29,12 @@ abbrev pub IsCovered : ℕ → List (List Linear) → List Linear → Covered �
 IsCovered n lists rows (Tree cover) = IsMetCover n (owed_lists lists) (as_given rows) cover
 IsCovered n lists rows (Hole values) = IsHole n lists rows values.items
 
--- a tree is given only where each whole point of the rows lies in a target
+-- a tree is given only where each integer point of the rows lies in a target
 abbrev pub HasNoHole : ℕ → List (List Linear) → List Linear → Covered → Type 0
 HasNoHole n lists rows (Tree cover) = (xs : List ℤ) → IsWholePoint n rows xs → IsInTarget lists xs
 HasNoHole n lists rows (Hole values) = Unit {0}
 
--- the n whole numbers are the point of the rows at the end of a path, each taken once
+-- the n integers are the point of the rows at the end of a path, each taken once
 pub record IsPointAfter (n : ℕ) (lists : List (List Linear)) (rows : List Linear) (xs : List ℤ) : Type 0 where
   pub as_many : length xs ≡ n
   pub path : List Branch
@@ -50,7 +50,7 @@ abbrev pub GivesHole : ℕ → List (List Linear) → List Linear → Covered �
 GivesHole n lists rows (Tree cover) = Unit {0}
 GivesHole n lists rows (Hole values) = IsPointAfter n lists rows values.items
 
--- at most so many splits lie on a path of a tree
+-- at most `most` splits lie on a path of a tree
 abbrev pub IsShallow : ℕ → Covered → Type 0
 IsShallow most (Tree cover) = splits cover ≤ most
 IsShallow most (Hole values) = Unit {0}
@@ -100,7 +100,7 @@ pub record IsWideDenial (n : ℕ) (lists : List (List Linear)) (rows : List Line
   pub is_path : IsCoverPath n lists rows path
   pub wide : IsWideAt n lists (rows_after rows path) column
 
--- what a refusal shows, for so many pivots and splits
+-- what a refusal shows, for a budget of `pivots` pivots and `most` splits
 abbrev pub IsCoverFault : ℕ → List (List Linear) → List Linear → ℕ → ℕ → CoverFault → Type 0
 IsCoverFault n lists rows pivots most (Splits path) = IsCoverPath n lists rows path.items × (length path.items ≡ most)
 IsCoverFault n lists rows pivots most (Solve kept fault) = IsUnsolved n lists rows kept.items (λ k. IsSystemFault n k pivots fault)

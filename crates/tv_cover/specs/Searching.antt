@@ -72,7 +72,7 @@ pub record MaySplit (n : ℕ) (lists : List (List Linear)) (rows : List Linear) 
   pub fresh : Contains place.rows.items branch.row → ⊥
   pub splits_by : IsSplit n lists (rows_after rows place.path.items) branch
 
--- the tree is a met cover of the rows, so that each of their whole points lies in a target
+-- the tree is a met cover of the rows, so that each of their integer points lies in a target
 pub record IsCoverOf (n : ℕ) (lists : List (List Linear)) (rows : List Linear) (most : ℕ) (tree : CoverTree) : Type 0 where
   pub met : IsMetCover n (owed_lists lists) (as_given rows) tree
   pub none : (xs : List ℤ) → IsWholePoint n rows xs → IsInTarget lists xs

@@ -75,7 +75,7 @@ pub record IsHoleAt (n : ℕ) (lists : List (List Linear)) (kept : List Linear) 
   pub shut : All (IsShut n kept) lists
 
 -- The two sides of a split that may stand on a path over the rows of a place: the second has the numbers of the first
--- one's denial, and may stand there once each whole point of the first is settled.
+-- one's denial, and may stand there once each integer point of the first is settled.
 pub record AreHalves (n : ℕ) (lists : List (List Linear)) (kept : List Linear) (halves : Halves) : Type 0 where
   pub first_even : columns halves.first.row ≡ n
   pub second_even : columns halves.second.row ≡ n

@@ -26,13 +26,13 @@ struct Place {
 /// What a place has.
 #[derive(Drop)]
 enum Found {
-    /// No whole point outside the targets, by this tree.
+    /// No integer point outside the targets, by this tree.
     Tree(CoverTree),
-    /// A whole point outside the targets.
+    /// An integer point outside the targets.
     Hole(Vec<i128>),
 }
 
-/// Settles a place below which so many splits may lie.
+/// Settles a place. At most `left` splits may lie on a path below it.
 #[cycle(searching)]
 fn settle(question: &Question, place: &mut Place, left: u32) -> Result<Found, CoverFault>
     requires bounded { question.now.columns < 2 ^ 32 - 1 }
@@ -130,7 +130,7 @@ fn settle_side(
     }
 }
 
-/// Settles the rows of a place, each taken once, where so many splits may lie on a path.
+/// Settles the rows of a place, each taken once. At most `budget.splits` splits may lie on a path.
 fn search(
     alloc: Global,
     columns: u32,
@@ -200,7 +200,7 @@ pub fn cover_of(
     }
 }
 
-/// A cover of the rows into the targets, or a whole point that meets the rows and lies in no target.
+/// A cover of the rows into the targets, or an integer point that meets the rows and lies in no target.
 ///
 /// The rows of the ambient and of the targets have its columns, which are variables. A tree is a proof tree as a
 /// certificate holds it: into target k, with the fall 0.

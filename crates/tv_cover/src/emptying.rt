@@ -1,4 +1,4 @@
-// Whole points of rows.
+// Integer points of rows.
 
 ghost use Rattle.std.specs.Prelude.{◌-◌, ◌^◌, ◌<◌, ◌≤◌, IfOk};
 ghost use Rattle.std.specs.Result.{IfErr};
@@ -12,7 +12,7 @@ use std::alloc::Global;
 use tv_farkas::{Budget, CoverFault};
 use tv_linear::Row;
 
-/// A cover without targets, so that no whole point meets the rows, or a whole point that meets them.
+/// A cover without targets, so that no integer point meets the rows, or an integer point that meets them.
 ///
 /// It is the search of `cover`: it takes the point of the rows, each taken once. Where a coordinate is not whole, it
 /// splits at the first such one, below and above it, and settles the lower side first.

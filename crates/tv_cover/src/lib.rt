@@ -1,5 +1,5 @@
-//! Covers of rows by targets: a proof tree that each whole point of the rows lies in some target, or a whole point
-//! that lies in none; and, without targets, whether rows have a whole point.
+//! Covers of rows by targets: a proof tree that each integer point of the rows lies in some target, or an integer
+//! point that lies in none; and, without targets, whether rows have an integer point.
 #![tactic(auto)]
 
 mod covered;

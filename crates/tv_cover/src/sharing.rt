@@ -21,7 +21,7 @@ pub fn place_of(rows: &[Row], row: &Row) -> Option<usize>
     None
 }
 
-/// Multipliers for so many rows and one more: 1 for the row at the place and for the last one, and 0 for the others.
+/// Multipliers for `count` rows and one more: 1 for the row at the place and for the last one, and 0 for the others.
 pub fn pair_at(alloc: Global, count: usize, place: usize) -> Result<Vec<i64>, AllocError>
     requires { place < count }
     ensures { IfOk result (λ v. v.items ≡ unit count place ++ pos 1 ∷ []) }

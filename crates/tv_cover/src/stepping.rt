@@ -97,7 +97,7 @@ fn first_entered(
 #[derive(Drop)]
 pub enum Step {
     Leaf(CoverTree),
-    /// A whole point that lies in no target.
+    /// An integer point that lies in no target.
     Hole(Vec<i128>),
     Split(Halves),
 }

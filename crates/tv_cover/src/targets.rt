@@ -5,14 +5,14 @@ ghost use Rattle.tv_cover.specs.Targets.{lists_of, AreEven};
 
 use tv_linear::{Poly, Row};
 
-/// Whether the rows have so many columns.
+/// Whether each row has `columns` columns.
 pub fn is_even(rows: &[Row], columns: u32) -> bool
     ensures { IsTrue result ↔ AreEven columns rows.now }
 {
     rows.iter().all(|row| row.columns() == columns)
 }
 
-/// Whether the rows of each poly have so many columns.
+/// Whether each row of each poly has `columns` columns.
 pub fn are_even(polys: &[Poly], columns: u32) -> bool
     ensures { IsTrue result ↔ All (AreEven columns) (lists_of polys.now) }
 {

@@ -13,11 +13,11 @@ use Rattle.tv_derived.specs.Faults.{IsRefusalOf}
 use Rattle.tv_derived.specs.Questions.{IsSpentOnCover}
 use Rattle.tv_derived.specs.CaseQuestions.{handed_rows, known_rows}
 
--- a path that has spent so many splits on a cover of at most so many targets
+-- a path that has spent `splits` splits on a cover of at most `many` targets
 abbrev pub IsSpentOnTargets : CaseSystem → List Placed → ℕ → ℕ → ℕ → List Branch → Type 0
 IsSpentOnTargets about base many h splits path = IsSpentOnCover about base (λ k. k ≤ many) h splits IsCoverPath path
 
--- a refusal of a cover over derived rows is one of a layer that asks of at most so many targets
+-- a refusal of a cover over derived rows is one of a layer that asks of at most `many` targets
 abbrev pub CoverRefuses : CaseSystem → List Placed → Scope → ℕ → Type 0
 CoverRefuses about base f h =
     (many : ℕ) (lists : List (List Linear)) (rows : List Linear) (pivots splits : ℕ) (fault : CoverFault) → AreUnsplit about base f h rows

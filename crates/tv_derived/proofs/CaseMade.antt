@@ -9,7 +9,7 @@ use Rattle.tv_cases.specs.LinearCases.{LinearCase, CaseSystem}
 use Rattle.tv_cases.specs.Before.{before}
 use Rattle.tv_cases.proofs.ContainsLemmas.{Contains-here, Contains-later, Contains-map, Contains-from_map}
 use Rattle.tv_derived.specs.Scopes.{over_case, at_location, with_more, placed}
-use Rattle.tv_derived.specs.Derived.{IsDerived, AreUnsplit, handed, guard, derived}
+use Rattle.tv_derived.specs.Derived.{IsDerived, IsUnsplit, AreUnsplit, handed, guard, derived}
 use Rattle.tv_derived.specs.CaseQuestions.{handed_rows, known_rows, case_rows, IsAsked, KnownAreDerived, OwedIsPut, OwedIsDenied, EmptyRefusesCase}
 use Rattle.tv_derived.proofs.Steps.{after_deny, after_before, over}
 use Rattle.tv_derived.proofs.Listing.{empty_refusal, one_of}
@@ -24,27 +24,24 @@ module _ (about : CaseSystem) (c : LinearCase) (rows : List Linear) (owed : Line
   pub deny : OwedIsDenied about c rows owed
   deny row result g d = after_deny row result (put (Ok row) g) d
 
-  row_derived : (h : ℕ) (r : Linear) → Contains rows r → IsDerived about (handed_rows c rows owed) (over_case c) h (with_more r (zeros c.draws))
+  row_derived : (h : ℕ) (r : Linear) → Contains rows r → IsUnsplit about (handed_rows c rows owed) (over_case c) h (with_more r (zeros c.draws))
   row_derived h r k =
-      over about (handed_rows c rows owed) c h r
+      over about (handed_rows c rows owed) c h r asked.among
       (handed (placed c.from r) (Contains-later (placed c.to owed) (placed c.from r) (map (placed c.from) rows) (Contains-map (placed c.from) rows r k)))
 
-  pub known_derived : (h : ℕ) (r : Linear) → Contains (known_rows c rows) r → IsDerived about (handed_rows c rows owed) (over_case c) h r
-  known_derived h r k = elim (Contains-append_cases (map (λ x. with_more x (zeros c.draws)) rows) c.guards r k) [
-    | inl known ↦
-        let found = Contains-from_map (λ x. with_more x (zeros c.draws)) rows r known in
-        subst (λ x. IsDerived about (handed_rows c rows owed) (over_case c) h x) found.2 (row_derived h found.0 found.1)
-    | inr of ↦ guard c r asked.among of
+  pub known : KnownAreDerived about c rows owed
+  known h r k = elim (Contains-append_cases (map (λ x. with_more x (zeros c.draws)) rows) c.guards r k) [
+    | inl before_it ↦
+        let found = Contains-from_map (λ x. with_more x (zeros c.draws)) rows r before_it in
+        subst (λ x. IsUnsplit about (handed_rows c rows owed) (over_case c) h x) found.2 (row_derived h found.0 found.1)
+    | inr of ↦ derived r (guard c r asked.among of)
   ]
 
-  pub known : KnownAreDerived about c rows owed
-  known h r k = derived r (known_derived h r k)
-
   all_derived : IsDerived about (handed_rows c rows owed) (over_case c) 1 (denial (before owed c)) → AreUnsplit about (handed_rows c rows owed) (over_case c) 1 (case_rows c rows owed)
-  all_derived d r k = derived r (elim (Contains-append_cases (known_rows c rows) (denial (before owed c) ∷ []) r k) [
-    | inr last ↦ subst (λ x. IsDerived about (handed_rows c rows owed) (over_case c) 1 x) (one_of (denial (before owed c)) r last) d
-    | inl front ↦ known_derived 1 r front
-  ])
+  all_derived d r k = elim (Contains-append_cases (known_rows c rows) (denial (before owed c) ∷ []) r k) [
+    | inr last ↦ derived r (subst (λ x. IsDerived about (handed_rows c rows owed) (over_case c) 1 x) (one_of (denial (before owed c)) r last) d)
+    | inl front ↦ known 1 r front
+  ]
 
   pub refusals : EmptyRefusesCase about c rows owed
   refusals row last pivots splits fault g d is =

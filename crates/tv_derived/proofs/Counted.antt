@@ -3,14 +3,14 @@ use Rattle.std.proofs.Common.{◌≡◌, ℕ, zero, suc, ◌+◌, ◌∙◌, Lis
 use Rattle.std.specs.Prelude.{Contains, ◌<ℤ◌, unsigned_abs}
 use Rattle.std.proofs.lemmas.Int.{ints}
 use Rattle.tv_linear.specs.Linear.{Linear}
-use Rattle.tv_linear.specs.Arithmetic.{zeros, plus_each, scaled, combined, width_of}
+use Rattle.tv_linear.specs.Arithmetic.{plus_each, scaled, combined, width_of}
 use Rattle.tv_linear.specs.Tight.{gcd, divisor_from, divided_unless_zero, tight}
 use Rattle.tv_linear.proofs.PlainLists.{get_or-zeros}
 use Rattle.tv_cases.specs.LinearCases.{CaseSystem}
 use Rattle.tv_cases.specs.EdgeCases.{columns_from}
 use Rattle.tv_cases.proofs.ContainsLemmas.{Contains-none}
 use Rattle.tv_derived.specs.Scopes.{Scope, Placed}
-use Rattle.tv_derived.specs.Derived.{IsDerived, IsMade, coefficient, handed, never, guard, made, longer, shorter, settled, denied, tightened, composed, added, taken_off, cancelled, drawn}
+use Rattle.tv_derived.specs.Derived.{IsDerived, IsMade, coefficient, handed, never, guard, made, shorter, settled, denied, tightened, composed, added, taken_off, cancelled, drawn}
 use Rattle.tv_derived.specs.Laws.{IsBlank}
 use Rattle.tv_simplex.proofs.Ring.{zero_times as no_times}
 
@@ -73,7 +73,6 @@ module _ (about : CaseSystem) (base : List Placed) where
     nothing blank e (never l) j = get_or-zeros about.variables j
     nothing blank e (guard c r among of) j = absurd (Contains-none r (subst (λ rows. Contains rows r) (blank.no_guards c among refl) of))
     nothing blank e (made r d narrow) j = nothing_made blank e d j
-    nothing blank e (longer cs k r d) j = zero_append r.coefficients (zeros k) (nothing blank e d) (get_or-zeros k) j
     nothing blank e (shorter r d) j = zero_front r.coefficients (pos 0 ∷ []) (nothing blank e d) j
     nothing blank e (settled r d) j = nothing blank e d j
 

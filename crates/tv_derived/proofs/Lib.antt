@@ -7,3 +7,4 @@ pub mod Different
 pub mod Counted
 pub mod CaseMade
 pub mod NarrowRows
+pub mod PathScopes

@@ -4,7 +4,7 @@ use Rattle.tv_linear.specs.Linear.{Linear, IsWithin}
 use Rattle.tv_linear.specs.Arithmetic.{zeros}
 use Rattle.tv_cases.specs.LinearCases.{CaseSystem}
 use Rattle.tv_derived.specs.Scopes.{Scope, Placed}
-use Rattle.tv_derived.specs.Derived.{IsDerived, AllNarrow, handed, never, guard, made, longer, shorter, settled}
+use Rattle.tv_derived.specs.Derived.{IsDerived, AllNarrow, handed, never, guard, made, shorter, settled}
 use Rattle.tv_derived.specs.Laws.{AreNarrowlyHanded}
 
 -- each number of the list, and the one after it, is below 2^62 in magnitude
@@ -15,11 +15,6 @@ zeros_within : (n : ℕ) (k : ℤ) → IsWithin 62 k → AreWithin (zeros n) k
 zeros_within zero k h column l = h
 zeros_within (suc n) k h zero l = omega arith
 zeros_within (suc n) k h (suc column) l = zeros_within n k h column (omega arith)
-
-more_within : (cs : List ℤ) (n : ℕ) (k : ℤ) → AreWithin cs k → AreWithin (cs ++ zeros n) k
-more_within [] n k h column l = zeros_within n k (h 0 (omega arith)) column l
-more_within (c ∷ cs) n k h zero l = h 0 (omega arith)
-more_within (c ∷ cs) n k h (suc column) l = more_within cs n k (λ j m. h (suc j) (omega arith)) column (omega arith)
 
 less_within : (cs : List ℤ) (k : ℤ) → AreWithin (cs ++ pos 0 ∷ []) k → AreWithin cs k
 less_within [] k h column l = h 1 (omega arith)
@@ -32,6 +27,5 @@ module _ (about : CaseSystem) (base : List Placed) (handed_in : AreNarrowlyHande
   narrow (never l) = zeros_within about.variables (pos 1) (omega arith)
   narrow (guard c r among of) = handed_in.guards c r among of
   narrow (made r d fits) = fits
-  narrow (longer cs j r d) = more_within r.coefficients j r.constant (narrow d)
   narrow (shorter r d) = less_within r.coefficients r.constant (narrow d)
   narrow (settled r d) = narrow d

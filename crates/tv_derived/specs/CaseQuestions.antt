@@ -1,4 +1,4 @@
--- Does a case keep a row at whole points, where some rows hold before it? The rows that are asked of, and where they come from.
+-- Does a case keep a row at integer points, where some rows hold before it? The rows that are asked of, and where they come from.
 use Rattle.std.specs.Prelude.{◌≡◌, ℕ, List, [], ◌∷◌, ◌++◌, map, Contains, Result, Ok, MatchResult}
 use Rattle.tv_linear.specs.Linear.{Linear, columns}
 use Rattle.tv_linear.specs.Arithmetic.{zeros, denial}

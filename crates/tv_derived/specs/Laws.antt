@@ -13,7 +13,7 @@ use Rattle.tv_farkas.specs.declared.branch.Branch.{Branch}
 use Rattle.tv_farkas.specs.declared.fault.CoverFault.{CoverFault}
 use Rattle.tv_farkas.specs.Paths.{TakenOnce, rows_after}
 use Rattle.tv_farkas.specs.EmptyPaths.{IsEmptyPath, IsEmptyFault}
-use Rattle.tv_derived.specs.Scopes.{Scope, at_location, over_case, width_at, with_more, Placed}
+use Rattle.tv_derived.specs.Scopes.{Scope, at_location, over_case, IsShortPath, draws_of, width_at, with_more, Placed}
 use Rattle.tv_derived.specs.Derived.{IsDerived, IsMade, IsDrawTerm, IsUnsplit, AreUnsplit, AreListed, IsDerivedList, AllNarrow, AreLeast, false_row, coefficient}
 use Rattle.tv_derived.specs.Regions.{placed_rows, ArePiecesDerived}
 use Rattle.tv_derived.specs.Faults.{IsWideStep, IsStepFault, IsRefusalOf}
@@ -27,6 +27,24 @@ pub record IsWellHanded (about : CaseSystem) (base : List Placed) : Type 0 where
 -- each derived row has a column for each variable and each draw of its scope
 abbrev pub AreEven : CaseSystem → List Placed → Type 0
 AreEven about base = (f : Scope) (h : ℕ) (r : Linear) → IsDerived about base f h r → columns r ≡ width_at about f
+
+-- the cases that are taken are a path from the location, with at most one case more than those on the way
+pub record IsPathScope (about : CaseSystem) (h : ℕ) (f : Scope) : Type 0 where
+  pub path : IsShortPath about h f.location f.taken
+  pub draws : f.draws ≤ draws_of f.taken
+
+abbrev pub ScopesArePaths : CaseSystem → List Placed → Type 0
+ScopesArePaths about base = (f : Scope) (h : ℕ) (r : Linear) → IsDerived about base f h r → IsPathScope about h f
+
+-- a step that is too wide is so at a column of the variables, of the draws of such a path or of the constant after them
+pub record IsColumnOfPath (about : CaseSystem) (h column : ℕ) : Type 0 where
+  pub location : ℕ
+  pub taken : List LinearCase
+  pub path : IsShortPath about h location taken
+  pub within : column ≤ about.variables + draws_of taken
+
+abbrev pub ColumnsAreOfPaths : CaseSystem → List Placed → Type 0
+ColumnsAreOfPaths about base = (h column : ℕ) → IsWideStep about base h column → IsColumnOfPath about h column
 
 -- the guards, and the rows handed in, are below 2^62 in magnitude
 pub record AreNarrowlyHanded (about : CaseSystem) (base : List Placed) : Type 0 where
@@ -56,9 +74,10 @@ pub record Carries (about : CaseSystem) (old base : List Placed) (k : ℕ) : Typ
 abbrev pub PiecesAreAllDerived : CaseSystem → List Placed → ℕ → List Piece → Type 0
 PiecesAreAllDerived about base k ps = ArePiecesDerived about base k ps → AreAllDerived about (placed_rows ps) base k
 
--- a row of a location is derived over a case from there
+-- a row of a location is one over a case from there
 abbrev pub IsDerivedOver : CaseSystem → List Placed → LinearCase → ℕ → Type 0
-IsDerivedOver about base c h = (r : Linear) → IsDerived about base (at_location c.from) h r → IsDerived about base (over_case c) h (with_more r (zeros c.draws))
+IsDerivedOver about base c h =
+    (r : Linear) → Contains about.cases c → IsDerived about base (at_location c.from) h r → IsUnsplit about base (over_case c) h (with_more r (zeros c.draws))
 
 -- a row that one step is to make is derived, where its numbers are below 2^62 in magnitude, and else the step is too wide
 abbrev pub Steps : CaseSystem → List Placed → Scope → ℕ → Type 0

@@ -6,7 +6,7 @@ ghost use Rattle.tv_linear.specs.declared.region.Piece.{Piece};
 ghost use Rattle.tv_cases.specs.LinearCases.{LinearCase, CaseSystem};
 ghost use Rattle.tv_derived.specs.Scopes.{Scope, Placed};
 ghost use Rattle.tv_derived.specs.Derived.{AllNarrow};
-ghost use Rattle.tv_derived.specs.Laws.{CancelsByLeast, IsSumOf, IsWellHanded, AreEven, AreNarrowlyHanded, AreNarrow, AreAllDerived, Carries, PiecesAreAllDerived, IsDerivedOver, Steps, Denies, Tightens, GoesBefore, PutsTerms, GoesOn, EmptyRefuses, ListsAreDifferent, NothingComes};
+ghost use Rattle.tv_derived.specs.Laws.{CancelsByLeast, IsSumOf, IsWellHanded, AreEven, ScopesArePaths, ColumnsAreOfPaths, AreNarrowlyHanded, AreNarrow, AreAllDerived, Carries, PiecesAreAllDerived, IsDerivedOver, Steps, Denies, Tightens, GoesBefore, PutsTerms, GoesOn, EmptyRefuses, ListsAreDifferent, NothingComes};
 ghost use Rattle.tv_derived.specs.CaseQuestions.{IsAsked, KnownAreDerived, OwedIsPut, OwedIsDenied, EmptyRefusesCase};
 
 /// What is derived from rows that are themselves derived with `k` cases on the way is derived with `k` more.
@@ -14,7 +14,7 @@ pub fn carries()
     ensures { (about : CaseSystem) (old base : List Placed) (k : ℕ) → AreAllDerived about old base k → Carries about old base k }
 {}
 
-/// The rows of pieces are derived where those of each piece are, and a row of a location is one over each case from there.
+/// The rows of pieces are derived where those of each piece are, and a derived row of a location is one of a list over each case from there.
 pub fn places_are_kept()
     ensures pieces { (about : CaseSystem) (base : List Placed) (k : ℕ) (ps : List Piece) → PiecesAreAllDerived about base k ps }
     ensures over { (about : CaseSystem) (base : List Placed) (c : LinearCase) (h : ℕ) → IsDerivedOver about base c h }
@@ -24,6 +24,13 @@ pub fn places_are_kept()
 pub fn rows_are_even()
     ensures even { (about : CaseSystem) (base : List Placed) → IsWellHanded about base → AreEven about base }
     ensures narrow { (about : CaseSystem) (base : List Placed) → AreNarrowlyHanded about base → AreNarrow about base }
+{}
+
+/// The cases that are taken on the way to a derived row are a path, with at most one case more than those on the way, and a step that is too
+/// wide is so at a column of such a path.
+pub fn columns_are_of_paths()
+    ensures scopes { (about : CaseSystem) (base : List Placed) → ScopesArePaths about base }
+    ensures columns { (about : CaseSystem) (base : List Placed) → IsWellHanded about base → ColumnsAreOfPaths about base }
 {}
 
 /// The calls on rows make derived rows of derived rows, or are refused since a row made by one step is too wide.
@@ -53,7 +60,7 @@ pub fn lists_are_different()
     ensures { (about : CaseSystem) (base : List Placed) (f : Scope) (h : ℕ) → ListsAreDifferent about base f h }
 {}
 
-/// Rows come from one location to another only over cases, each of which is counted.
+/// Rows come from one location to another only over cases. Each of these cases is counted.
 pub fn cases_are_counted()
     ensures { (about : CaseSystem) (base : List Placed) (f : Scope) → NothingComes about base f }
 {}

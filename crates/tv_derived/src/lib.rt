@@ -6,6 +6,7 @@
 mod laws;
 
 pub use laws::{
-    carries, case_questions_are_derived, cases_are_counted, draws_are_cancelled,
-    lists_are_different, paths_are_listed, places_are_kept, rows_are_even, steps_are_derived,
+    carries, case_questions_are_derived, cases_are_counted, columns_are_of_paths,
+    draws_are_cancelled, lists_are_different, paths_are_listed, places_are_kept, rows_are_even,
+    steps_are_derived,
 };

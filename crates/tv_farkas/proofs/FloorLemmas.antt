@@ -27,7 +27,7 @@ is_floor x (pos (suc n)) h =
     let o = one_more q (pos (suc n)) in
     record { below = omega (arith, ints, b.0, c); above = omega (arith, ints, b.1, c, o) }
 
--- a whole number is its own floor
+-- an integer is its own floor
 pub floor_same : (x z k q : ℤ) → pos 0 <ℤ z → IsFloor x z k → x ≡ q *ℤ z → k *ℤ z ≡ x
 floor_same x z k q p f e =
     let d = less_times q k z in

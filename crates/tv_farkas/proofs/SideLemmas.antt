@@ -92,7 +92,7 @@ take-init (y ∷ xs) x =
 pub popped : {A : Type 0} (xs : List A) (x : A) (mid inner new : List A) → mid ≡ xs ++ x ∷ [] → inner ≡ mid → new ≡ take (length inner - 1) inner → new ≡ xs
 popped xs x mid inner new e f g = g ∙ ap (λ k. take (length k - 1) k) (f ∙ e) ∙ take-init xs x
 
--- ---- a whole point
+-- ---- an integer point
 pub dot-divided : (cs values xs : List ℤ) (z : ℤ) → length values ≡ length xs → ((j : ℕ) → j < length xs → get_or values j (pos 0) ≡ get_or xs j (pos 0) *ℤ z) → dot cs values ≡ dot cs xs *ℤ z
 dot-divided [] values xs z e h = sym (zero_times (pos 0) z refl)
 dot-divided (c ∷ cs) [] [] z e h = sym (zero_times (pos 0) z refl)

@@ -127,7 +127,7 @@ pub short_all : (xs : List ℤ) → AreShort xs → All (IsWithin 62) xs
 short_all [] h = All-nil (IsWithin 62)
 short_all (x ∷ xs) h = All-cons (IsWithin 62) x xs (h 0 (omega arith)) (short_all xs (λ j l. h (suc j) (omega (arith, l))))
 
--- rows of which some are repeated are refuted where the rows, each taken once, are
+-- rows with repeats are refuted where the rows, each taken once, are refuted
 pub stretched_all : (n : ℕ) (marks : List Bool) (rows kept : List Linear) (ms : List ℤ) → IsTakenBy marks rows kept → Refutes n (as_given kept) ms → Refutes n (as_given rows) (stretched marks ms)
 stretched_all n marks rows kept ms t h =
     subst (λ ks. Refutes n ks (stretched marks ms)) (append-nil (as_given rows))

@@ -7,11 +7,11 @@ use Rattle.tv_farkas.specs.RefutationSystem.{IsPointOf}
 use Rattle.tv_farkas.specs.Refuting.{IsSystemFault}
 use Rattle.tv_farkas.specs.Paths.{TakenOnce, IsCoordinateSplit, IsPath, rows_after}
 
--- a path without targets: the lower side of each split that is left has no whole point
+-- a path without targets: the lower side of each split that is left has no integer point
 abbrev pub IsEmptyPath : ℕ → List Linear → List Branch → Type 0
 IsEmptyPath n rows path = IsPath (IsCoordinateSplit n (λ xs. ⊥)) rows path
 
--- the n whole numbers are the point of the rows at the end of such a path, each taken once
+-- the n integers are the point of the rows at the end of such a path, each taken once
 pub record IsWholePointOf (n : ℕ) (rows : List Linear) (xs : List ℤ) : Type 0 where
   pub as_many : length xs ≡ n
   pub path : List Branch
@@ -30,7 +30,7 @@ pub record IsUnsolved (n : ℕ) (rows kept : List Linear) (holds : List Linear �
   pub taken : TakenOnce (rows_after rows path) kept
   pub fault : holds kept
 
--- what a refusal shows, for so many pivots and splits; no row is denied or composed, so none is wide
+-- what a refusal shows, for a budget of `pivots` pivots and `splits` splits; no row is denied or composed, so none is wide
 abbrev pub IsEmptyFault : ℕ → List Linear → ℕ → ℕ → CoverFault → Type 0
 IsEmptyFault n rows pivots splits (Splits path) = IsEmptyPath n rows path.items × (length path.items ≡ splits)
 IsEmptyFault n rows pivots splits (Solve kept fault) = IsUnsolved n rows kept.items (λ k. IsSystemFault n k pivots fault)

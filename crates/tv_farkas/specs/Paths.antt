@@ -17,7 +17,7 @@ pub data TakenOnce : List Linear → List Linear → Type 0 where
 abbrev pub IsWholeAt : List ℤ → ℤ → ℕ → Type 0
 IsWholeAt values scale j = (q : ℤ) × (get_or values j (pos 0) ≡ q *ℤ scale)
 
--- column is the first of the n coordinates of the point that is not whole, and floor the whole number just below it
+-- column is the first of the n coordinates of the point that is not whole, and floor the integer just below it
 pub record IsFirstFraction (n : ℕ) (values : List ℤ) (scale : ℤ) (column : ℕ) (floor : ℤ) : Type 0 where
   pub within : column < n
   pub before : (j : ℕ) → j < column → IsWholeAt values scale j
@@ -32,14 +32,14 @@ at_most_row n column k = raised (neg_ℤ k) (column_row n column)
 abbrev pub at_least_row : ℕ → ℕ → ℤ → Linear
 at_least_row n column k = denial (at_most_row n column k)
 
--- whole numbers that meet the rows, over n columns
+-- integers that meet the rows, over n columns
 pub record IsWholePoint (n : ℕ) (rows : List Linear) (xs : List ℤ) : Type 0 where
   pub width : length xs ≡ n
   pub met : All (IsMet xs) rows
 
 -- The row splits below or above the first coordinate that is not whole of the point of the rows above it, each
 -- of them taken once; the numbers of the point are short. The lower side is settled first: where the row is that of
--- the upper side, each whole point of the lower side is settled.
+-- the upper side, each integer point of the lower side is settled.
 pub record IsPointSplit (n : ℕ) (settled : List ℤ → Type 0) (above : List Linear) (row : Linear) (values : List ℤ) (scale : ℤ) : Type 0 where
   pub kept : List Linear
   pub taken : TakenOnce above kept

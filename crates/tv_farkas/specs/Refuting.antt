@@ -53,7 +53,7 @@ IsRefusal n rows pivots (Pivots bases) = IsSystemFault n rows pivots (Pivots bas
 IsRefusal n rows pivots (Size height width) = IsSystemFault n rows pivots (Size height width)
 IsRefusal n rows pivots Memory = Unit {0}
 
--- the point has the opposites of these numbers, of which the last is the scale
+-- the point has the opposites of these numbers; the last opposite is the scale
 abbrev pub IsOppositePoint : List ℤ → Refuted → Type 0
 IsOppositePoint y (Empty multipliers) = ⊥
 IsOppositePoint y (Point values scale) = y ≡ map neg_ℤ (values.items ++ scale ∷ [])

@@ -22,7 +22,7 @@ stretched (true ∷ marks) ms = pos 0 ∷ stretched marks ms
 stretched (false ∷ marks) [] = stretched marks []
 stretched (false ∷ marks) (m ∷ ms) = m ∷ stretched marks ms
 
--- k is the greatest whole number at most x / z
+-- k is the greatest integer at most x / z
 pub record IsFloor (x z k : ℤ) : Type 0 where
   pub below : (k *ℤ z) ≤ℤ x
   pub above : x <ℤ ((k +ℤ pos 1) *ℤ z)
@@ -42,7 +42,7 @@ pub record AreDivided (n : ℕ) (values : List ℤ) (scale : ℤ) (xs : List ℤ
   pub same : (j : ℕ) → j < n → get_or values j (pos 0) ≡ get_or xs j (pos 0) *ℤ scale
   pub short : (j : ℕ) → j < n → IsShort (get_or xs j (pos 0))
 
--- the row as it is known in a cover has the same numbers, which can be told
+-- the row as it is known in a cover has the same numbers, which can be computed
 pub record IsSide (n : ℕ) (r : Linear) (k : Known) : Type 0 where
   pub inner : (j : ℕ) → j < n → known_number k (Some j) ≡ number (Some j) r
   pub constant : known_number k None ≡ r.constant

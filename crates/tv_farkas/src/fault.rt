@@ -5,7 +5,7 @@ use std::alloc::AllocError;
 use tv_linear::{Row, RowFault};
 use tv_simplex::SolveFault;
 
-/// Why no cover and no whole point was found.
+/// Why no cover and no integer point was found.
 #[derive(Drop)]
 pub enum CoverFault {
     /// A path has as many splits as the budget allows, and the rows at its end still have a point that is not

@@ -1,4 +1,4 @@
-/// Whether rows, of which some may be repeated, have a point over a scale.
+/// Whether rows have a point over a scale. Some of the rows may be repeated.
 #[derive(Drop)]
 pub enum Judged {
     /// They have none: a multiplier for each row, which is 0 at each repeated one.

@@ -1,4 +1,4 @@
-// Rows of which some may be repeated.
+// Lists of rows that may hold repeated rows.
 
 ghost use Rattle.std.specs.Prelude.{◌≡◌, ◌-◌, ◌^◌, ◌<◌, All, IfOk};
 ghost use Rattle.std.specs.Result.{IfErr};
@@ -23,7 +23,7 @@ pub fn unsolved(rows: Vec<Row>, fault: SolveFault) -> CoverFault
     }
 }
 
-/// Multipliers that refute rows of which some may be repeated, or the point of the rows, each taken once.
+/// Multipliers that refute the rows, or the point of the rows, each taken once. Some rows may be repeated.
 ///
 /// The refusals are `Solve`, with the rows each taken once, and `Memory`.
 pub fn judge(alloc: Global, rows: &[Row], columns: u32, pivots: u64) -> Result<Judged, CoverFault>

@@ -1,5 +1,5 @@
 //! Whether rows have a point: multipliers that refute them or a point over a scale. Beside it what the search for
-//! whole points stands on: rows taken once, coordinates that are not whole, splits of proof trees.
+//! integer points stands on: rows taken once, coordinates that are not integers, splits of proof trees.
 #![tactic(auto)]
 
 mod branch;

@@ -7,7 +7,7 @@ ghost use Rattle.tv_farkas.specs.Stretching.{AreWhole, IsFirstOpen, AreDivided, 
 use std::alloc::{AllocError, Global};
 use tv_linear::push_item;
 
-/// The whole number at or just below a number over a scale.
+/// The integer at or just below a number over a scale.
 pub(crate) fn floor_of(number: i128, scale: i128) -> i128
     requires number { IsShort number }
     requires scale { IsShort scale }

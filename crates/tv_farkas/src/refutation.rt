@@ -11,7 +11,7 @@ use std::alloc::{AllocError, Global};
 use tv_linear::{Row, push_item};
 use tv_simplex::{Entries, System};
 
-/// The number of a row in a column, of which the constant's is the last.
+/// The number of a row in a column. The last column is the constant's.
 fn number_at(row: &Row, column: usize) -> i128
     ensures { result ≡ entry row.now column }
 {

@@ -24,7 +24,7 @@ fn opposite_at(numbers: &[i128], place: usize) -> i128
     -numbers[place]
 }
 
-/// The point of a barrier: the opposites of its numbers, of which the last is the scale.
+/// The point of a barrier: the opposites of its numbers. The last opposite is the scale.
 fn point_of(alloc: Global, y: &[i128], columns: u32) -> Result<Refuted, AllocError>
     requires many { length y.now ≡ columns + 1 }
     requires short { (k : ℕ) → k < length y.now → IsShort (get_or y.now k (pos 0)) }

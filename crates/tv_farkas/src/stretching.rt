@@ -1,4 +1,4 @@
-// Multipliers of rows of which some are repeated.
+// Multipliers of rows, where some rows are repeated.
 
 ghost use Rattle.std.specs.Prelude.{◌≡◌, ◌++◌, IfOk};
 ghost use Rattle.tv_farkas.specs.Stretching.{stretched};

@@ -32,7 +32,7 @@ abbrev mutual
   are_normal (more f fs) = is_normal f && are_normal fs
 
 abbrev mutual
-  -- the property speaks of one state: it has neither a next nor a fixed point nor `term`
+  -- the property speaks of one state: it has neither a next nor a fixpoint nor `term`
   pub is_local : Property → Bool
   is_local (truth b) = true
   is_local (compare r a b) = true

@@ -25,7 +25,7 @@ abbrev mutual
   properties_fit variables locations (more f fs) = property_fits variables locations f && properties_fit variables locations fs
 
 abbrev mutual
-  -- the greatest number of conjunctions, disjunctions, next and fixed points on a path
+  -- the greatest number of conjunctions, disjunctions, next and fixpoints on a path
   pub operators : Property → ℕ
   operators (truth b) = 0
   operators (compare r a b) = 0
@@ -58,7 +58,7 @@ abbrev mutual
   most_nots none = 0
   most_nots (more f fs) = max (nots f) (most_nots fs)
 
--- the limits of a formula over so many variables and locations
+-- the limits of a formula over `variables` variables and `locations` locations
 pub record IsFormula (variables locations : ℕ) (f : Property) : Type 0 where
   pub fits : IsTrue (property_fits variables locations f)
   pub few_operators : IsTrue (nat_le (operators f) 200)

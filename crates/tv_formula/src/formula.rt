@@ -5,7 +5,7 @@ use crate::tree::Tree;
 
 /// A formula over the variables and locations of a program.
 ///
-/// A path has at most 200 nodes that are conjunctions, disjunctions, next or fixed points, and at most 64 negations.
+/// A path has at most 200 nodes that are conjunctions, disjunctions, next or fixpoints, and at most 64 negations.
 #[derive(Drop)]
 pub struct Formula {
     tree: Tree,
@@ -18,7 +18,7 @@ impl Formula {
     ghost use Rattle.std.specs.Prelude.{◌≡◌};
     ghost use Rattle.tv_formula.specs.Formulas.{property_of, variables_of, locations_of};
 
-    /// The formula of a tree over so many variables and locations.
+    /// The formula of a tree over `variables` variables and `locations` locations.
     pub fn new(tree: Tree, variables: u32, locations: u32) -> Formula
         requires { IsFormula variables locations (property tree) }
         ensures same { property_of result ≡ property tree }

@@ -7,7 +7,7 @@ pub enum Path {
     Any,
 }
 
-/// How the two arguments of a fixed point follow each other along a path.
+/// How the two arguments of a fixpoint follow each other along a path.
 ///
 /// `f` until `g` reaches `g`, with `f` before it; weak until may also keep `f` for ever. Release and strong release have the
 /// arguments exchanged and ask for both at the end: `f` releases `g` where `g` is weak until `f` and `g`.

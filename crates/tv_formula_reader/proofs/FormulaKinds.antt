@@ -221,7 +221,7 @@ formula_kinded n = formula_kinded_over (literal_at every n) (either_kinded (comp
 text_kinded : (n : ℕ) → Kinded Told (text_at every n)
 text_kinded n = then_kinded Told (formula_at every n) at_end (formula_kinded n) end_kinded
 
--- ---- what is told
+-- ---- what is reported
 
 module _ (v : Vocabulary) (text : List ℕ) (list : List Token) (ts : List Seen) (n : ℕ) (e : Reason) (reads : Unless e ((text_at every n).read ts ≡ fault (kind_of e) (seen_all v text list))) where
   first_mark : mark_at (next (seen_all v text list)) ≡ next (marking.marks_from text false v.variables 0 list)

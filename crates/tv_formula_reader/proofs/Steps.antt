@@ -35,7 +35,7 @@ mark_is (plain (label v)) k e n = absurd (n e)
 mark_is (plain (drawn v)) k e n = absurd (n e)
 mark_is (refused j kind) k e n = absurd (n e)
 
--- what reads by the kind of the first token, told the kind
+-- what reads by the kind of the first token, given the kind
 kind_read : {X : Type 0} (f : Seen → TokenKind → Behind X) (g : TokenKind → Behind X) (ts : List Seen) (k : TokenKind) → k ≡ kind_seen (next ts) → (k ≡ kinds.Unread → ⊥) → ((t : Seen) (here us : List Seen) → branch_read (f t k) here us ≡ branch_read (g k) here us) → headed_read marks.Syntax (λ t. at_kind (f t) t.mark) ts ≡ branch_read (g k) ts (drop 1 ts)
 kind_read f g [] k e n h = absurd (n e)
 kind_read f g (t ∷ ts) k e n h = ap (λ (m : Mark). branch_read (at_kind (f t) m) (t ∷ ts) ts) (mark_is t.mark k e n) ∙ h t (t ∷ ts) ts

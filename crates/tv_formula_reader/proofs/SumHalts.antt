@@ -56,7 +56,7 @@ module _ (kept : Kind → Bool) where
 
   -- ---- tokens
 
-  -- how the lifted grammar answers, told by marks
+  -- how the lifted grammar answers, in terms of marks
   pub record Told (n : ℕ) (ts : List Seen) (k : Kind) (r : List Seen) : Type 0 where
     pub left : List Mark
     pub read : (sum_at kept n true).read (marks ts) ≡ fault k left

@@ -10,7 +10,7 @@ pub enum FormulaFault {
     /// A name that is no variable, or a label that is no location.
     #[error("byte {at}: a name that the program does not have")]
     UnknownName { at: u32 },
-    /// A name in a product of which an earlier factor has one.
+    /// A name in a product where an earlier factor has one.
     #[error("byte {at}: a product of two names")]
     NotLinear { at: u32 },
     /// A number of 2^62 or more.

@@ -164,7 +164,7 @@ conjunction_levels f = bracket_levels (is_some f) (formula_levels f)
 
 -- ---- what a derivation shows
 
--- the formula can be written within so many levels, and what is left is as good
+-- the formula can be written within n levels, and what is left is as good
 pub record Shown (v : Vocabulary) (Whole : Type 0) (levels n : ℕ) (rest : List Sign) : Type 0 where
   pub ready : Whole
   pub within : levels ≤ n

@@ -74,7 +74,7 @@ fn is_some(tree: &Tree) -> bool
     matches!(tree, Tree::Or(_))
 }
 
-/// How a fixed point is written: by an operator of one argument where it has its form.
+/// How a fixpoint is written: by an operator of one argument where it has its form.
 #[derive(Clone, Copy)]
 enum Form {
     Finally,

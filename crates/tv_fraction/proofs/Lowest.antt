@@ -37,7 +37,7 @@ divides (suc fuel) x y d le some co h = elim (cases_lt 0 x) [
   ]
 ]
 
--- the parts of equal ratios, of which the first is in lowest terms
+-- the parts of equal ratios where the first is in lowest terms
 lowest_parts : (x y n d : ℕ) → 0 < y → 0 < d → AreCoprime x y → x * d ≡ n * y → (x ≤ n) × (y ≤ d)
 lowest_parts x y n d some more co e =
     let h : y ∣ d = divides (x + y + 1) x y d (omega arith) some co (subst (λ k. y ∣ k) (sym e) (dvd-mul_left y n)) in

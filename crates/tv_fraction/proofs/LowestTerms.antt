@@ -45,7 +45,7 @@ same_signed (pos (suc x)) (pos d) (negsuc n) (pos e) p q h k s = absurd (omega (
 divides_one : (d : ℕ) → d ∣ 1 → d ≡ 1
 divides_one d h = (let l : d ≤ 1 = le_of_dvd (omega arith) h in let p : 0 < d = pos_of_dvd_of_pos h (omega arith) in omega (arith, l, p))
 
--- whole numbers are in lowest terms, and so are those whose greatest common divisor is 1
+-- integers are in lowest terms, and so are two numbers whose greatest common divisor is 1
 pub coprime_one : (a b : ℕ) → b ≡ 1 → AreCoprime a b
 coprime_one a b e d x y = divides_one d (subst (λ z. d ∣ z) e y)
 

@@ -55,7 +55,7 @@ not_none (pos (suc a)) (pos zero) h k e = k refl
 not_none (pos (suc a)) (pos (suc b)) h k e = absurd (omega (arith, ints, e))
 not_none (pos (suc a)) (negsuc b) h k e = absurd (omega (arith, ints, e))
 
--- a difference of whole numbers as one of fractions
+-- a difference of integers as one of fractions
 pub whole_difference : (f g a d c e q h : ℤ) → d ≡ pos 1 → e ≡ pos 1 → h ≡ pos 1 → f *ℤ pos 1 ≡ (a -ℤ c *ℤ q) *ℤ g → f *ℤ (d *ℤ (e *ℤ h)) ≡ (a *ℤ (e *ℤ h) -ℤ (c *ℤ q) *ℤ d) *ℤ g
 whole_difference f g a d c e q h x y z same =
     let under : e *ℤ h ≡ pos 1 = (λ i. y i *ℤ z i) ∙ (let o : pos 1 *ℤ pos 1 ≡ pos 1 = omega (arith, ints) in o) in

@@ -37,7 +37,7 @@ fn is_one(fraction: &Fraction) -> bool
     fraction.numerator == 1 && fraction.denominator == 1
 }
 
-/// The whole number `a - c * q`.
+/// The integer `a - c * q`.
 fn whole_mul_sub(a: i128, c: i128, q: i128) -> Fraction
     requires a_narrow { unsigned_abs a < 2 ^ 40 }
     requires c_narrow { unsigned_abs c < 2 ^ 40 }

@@ -29,7 +29,7 @@ pub struct Fraction {
 impl Fraction {
     ghost use Rattle.tv_fraction.specs.Fraction.{numerator_of, denominator_of, IsRatio, IsNarrow};
 
-    /// The fraction of two whole numbers, brought to lowest terms.
+    /// The fraction of two integers, brought to lowest terms.
     pub fn new(numerator: i128, denominator: i128) -> Fraction
         requires positive { pos 0 <ℤ denominator }
         requires numerator_fits { unsigned_abs numerator < 2 ^ 126 }

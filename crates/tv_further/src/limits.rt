@@ -11,10 +11,10 @@ pub(crate) const RANK_ROUNDS: usize = 8;
 
 pub(crate) const RANK_TERMS: usize = 24;
 
-/// How many layers a fixed point that comes to an end has at most beyond what ranks show.
+/// How many layers a fixpoint that comes to an end has at most beyond what ranks show.
 pub(crate) const LAYERS: usize = 16;
 
-/// How many rounds of cuts a fixed point has that may go on for ever. A round goes through all locations, so few do, except where a loop is
+/// How many rounds of cuts a fixpoint has that may go on for ever. A round goes through all locations, so few do, except where a loop is
 /// to be run through backwards: there each round adds one turn, and areas for it. Beyond three the work grows faster than what it settles.
 pub(crate) const CUTS: usize = 3;
 

@@ -89,7 +89,7 @@ fn first_found(question: &Question, claim: &Claim) -> Result<Option<Further>, Al
 /// Which searches are made.
 #[derive(Clone, Copy)]
 enum Reach {
-    /// That of single states alone.
+    /// The search of single states alone.
     States,
     All,
 }

@@ -1,4 +1,4 @@
--- The ways to make a grammar keep that it asks less, and what that tells of the kind of a fault.
+-- The ways to make a grammar keep that it asks less, and what that says about the kind of a fault.
 use Rattle.std.proofs.Common.{◌≡◌, ℕ, zero, suc, ◌≤◌, Bool, true, false, List, [], ◌∷◌, ◌++◌, length, Some, Result, Ok, Err, refl, sym, ap, subst, ◌∙◌, length-append, arith}
 use Rattle.std.proofs.lemmas.List.{append-nil}
 use Rattle.tv_grammar.specs.Reads.{Fault, faulty, Read, ◌>>=◌, fault, next}
@@ -101,7 +101,7 @@ module _ {T K S : Type 0} (kept : K → Bool) (cases looser : S → T → Branch
   pub turns_loose : (s : S) → Loosens kept (turns cases s) (turns looser s)
   turns_loose s = record { at = λ ts. turns_follow (suc (length ts)) s ts }
 
--- ---- what the kind of a fault tells
+-- ---- what the kind of a fault says
 
 -- A kind that is kept: the looser grammar stops there too.
 pub none_in : {T K X : Type 0} (kept : K → Bool) (l m : Lang T K X) → Exact m → Ends m → Loosens kept l m → (k : K) → kept k ≡ true → (ts r : List T) → (f : Least l k ts r) → NoneIn m f.before r

@@ -1,4 +1,4 @@
--- The kind of a fault: what its token tells, and what a grammar that asks less tells.
+-- The kind of a fault: what its token says, and what a grammar that asks less says.
 use Rattle.std.specs.Prelude.{◌≡◌, ℕ, ◌<◌, Bool, true, false, List, [], ◌++◌, length, Option, Some, Result, Ok, Err}
 use Rattle.tv_grammar.specs.Reads.{Fault, faulty, fault, next}
 use Rattle.tv_grammar.specs.Langs.{Lang, Branch, stop, go}

@@ -107,7 +107,7 @@ abbrev pub turn_read : {T K S : Type 0} → Branch T K S → (S → Read T K S) 
 turn_read (stop k) again s here behind = Ok (s, here)
 turn_read (go l) again s here behind = l.read behind >>= λ x. again x.0 x.1
 
--- at most so many turns
+-- at most n turns
 unfoldable pub turns_read : {T K S : Type 0} (cases : S → T → Branch T K S) → ℕ → S → Read T K S
 turns_read cases zero s ts = Ok (s, ts)
 turns_read cases (suc n) s [] = Ok (s, [])
@@ -122,7 +122,7 @@ turns {T} {K} {S} cases s = record {
   read = λ ts. turns_read cases (suc (length ts)) s ts;
 }
 
--- so many of l
+-- l, n times
 unfoldable pub times : {T K X : Type 0} → ℕ → Lang T K X → Lang T K (List X)
 times zero l = unit []
 times (suc n) l = then l (λ x. mapped (λ xs. x ∷ xs) (times n l))

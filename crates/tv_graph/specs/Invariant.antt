@@ -26,7 +26,7 @@ pub record IsSearchState (m : ℕ) (f t : ℕ → ℕ) (R : ℕ → ℕ → Type
   pub joined : (u v c : ℕ) → mark u ≡ Closed c → mark v ≡ Closed c → R u v
   pub numbered : (u c : ℕ) → mark u ≡ Closed c → c < count
   pub used : (c : ℕ) → c < count → (u : ℕ) × (mark u ≡ Closed c)
-  -- an open node with arcs left waits, and so does each start of a segment, of which the first is the start of the path
+  -- an open node with arcs left waits, and so does each start of a segment; the first segment starts where the path does
   pub waiting : (u i : ℕ) → mark u ≡ Open i → (cur u ≡ 0) ⊎ W i
   pub within : (i : ℕ) → W i → i < size
   pub boundaries : (b : ℕ) → B b → W b

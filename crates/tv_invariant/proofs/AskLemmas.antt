@@ -18,7 +18,7 @@ use Rattle.std.proofs.lemmas.List.{nil_from_length}
 
 -- ---- one proposer
 
--- what was taken so far, and that a rest that is told then was told at first after it
+-- what was taken so far; a rest that is reported now comes after it in what was reported at first
 abbrev pub Asked : CaseSystem → Option (List Candidate) → Option (List Candidate) → List Candidate → List Candidate → Type 0
 Asked about first now old list = (given : List Candidate) × AreTaken about old given list × ((after : List Candidate) → IsTold now after → IsTold first (given ++ after))
 

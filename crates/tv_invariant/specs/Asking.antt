@@ -9,7 +9,7 @@ use Rattle.tv_candidates.specs.Inductive.{IsInductive, IsPart, IsLargestInductiv
 use Rattle.tv_candidates.specs.Offered.{fits, false_candidates, offered}
 use Rattle.tv_invariant.specs.Falling.{IsRefusal}
 
--- a rest that is told is what was given
+-- a rest that is reported is what was given
 abbrev pub IsTold : Option (List Candidate) → List Candidate → Type 0
 IsTold None given = Unit {0}
 IsTold (Some told) given = given ≡ told

@@ -1,4 +1,4 @@
--- What is told of a candidate after a case.
+-- What is said of a candidate after a case.
 use Rattle.std.specs.Prelude.{◌≡◌, ◌⊎◌, List, [], ◌∷◌, true, false, Ok}
 use Rattle.std.specs.List.{Contains}
 use Rattle.tv_linear.specs.Linear.{Linear}
@@ -16,11 +16,11 @@ use Rattle.tv_invariant.specs.Falling.{IsUnmade}
 abbrev pub row_before : Judge → Linear → Linear
 row_before j r = before r (case_view j.case.now)
 
--- the case does not lead to its location, or each whole point over the case meets the row before it
+-- the case does not lead to its location, or each integer point over the case meets the row before it
 abbrev pub Stays : Judge → Candidate → Type 0
 Stays j c = c.location ≡ j.case.now.to → IsSettled j.ambient.now.columns j.ambient.now.rows.items (row_before j c.row) true
 
--- the case leads to its location, and some whole point over the case does not meet the row before it
+-- the case leads to its location, and some integer point over the case does not meet the row before it
 abbrev pub Falls : Judge → Candidate → Type 0
 Falls j c = (c.location ≡ j.case.now.to) × IsSettled j.ambient.now.columns j.ambient.now.rows.items (row_before j c.row) false
 

@@ -22,8 +22,8 @@ IsClosed marks k = get_or marks k true ≡ false
 abbrev pub ClosedKeep : CaseSystem → List Candidate → List Bool → Type 0
 ClosedKeep about now marks = (k : ℕ) (case : LinearCase) → slice_get about.cases k ≡ Some case → IsClosed marks k → KeepsAll about.variables now case
 
--- The candidates that are left after some cases were tried, those with less numbers than count among them: they are what is left of each
--- list of which the old ones were. Where they are as many, they are the old ones and these cases are closed.
+-- The candidates that are left after some cases were tried, those with numbers below count among them. Where the old ones are left of a
+-- list, the new ones are too. Where they are as many, they are the old ones and the cases with numbers below count are closed.
 pub record IsPassed (about : CaseSystem) (count : ℕ) (old new : List Candidate) (before after : List Bool) : Type 0 where
   pub left : (list : List Candidate) → IsLeft about list old → IsLeft about list new
   pub shorter : length new ≤ length old

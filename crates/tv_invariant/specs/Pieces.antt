@@ -9,7 +9,7 @@ use Rattle.tv_candidates.specs.declared.candidate.Candidate.{Candidate}
 use Rattle.tv_invariant.specs.Rows.{IsStronger}
 use Rattle.tv_invariant.specs.Places.{rows_at}
 
--- the piece of the rows at a location, over v variables, of which some that others imply are left out
+-- the piece of the rows at a location, over v variables, without some that others imply
 pub record IsPieceOf (v : ℕ) (list : List Candidate) (l : ℕ) (piece : Piece) : Type 0 where
   pub place : piece.location ≡ l
   pub wide : piece.poly.columns ≡ v

@@ -25,7 +25,7 @@ pub record IsReached (about : CaseSystem) (r : Reached) : Type 0 where
 abbrev pub IsInNone : CaseSystem → Candidate → Type 0
 IsInNone about c = (list : List Candidate) → IsInductive about list → Contains list c → ⊥
 
--- so many numbers were put at the end
+-- count numbers were put at the end
 pub record AreDrawn (count : ℕ) (old new : List ℤ) : Type 0 where
   pub drawn : List ℤ
   pub counted : length drawn ≡ count

@@ -22,7 +22,7 @@ use tv_farkas::{Budget, CoverFault};
 ///
 /// Those that some state at the start, or on one of some runs, does not meet are taken out, and then again and again those that some
 /// case does not keep, until a pass over the cases takes none out (the algorithm of Houdini: Flanagan and Leino, 2001). A case is tried
-/// again only where candidates fell where it leaves, and a whole point that throws a candidate out is tried on the others before a cover
+/// again only where candidates fell where it leaves, and an integer point that throws a candidate out is tried on the others before a cover
 /// is asked for.
 pub fn largest_inductive(
     alloc: Global,

@@ -9,7 +9,7 @@ use std::alloc::{AllocError, Global};
 use tv_candidates::Candidate;
 use tv_linear::{Row, push_item};
 
-/// The rows at a location, with so many more columns.
+/// The rows at a location, with `more` more columns.
 pub fn padded_at(
     alloc: Global,
     candidates: &[Candidate],

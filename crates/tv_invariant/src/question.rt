@@ -1,4 +1,4 @@
-// Whether the whole points of rows meet a row.
+// Whether the integer points of rows meet a row.
 
 ghost use Rattle.std.specs.Prelude.{◌≡◌, ◌-◌, ◌^◌, ◌<◌, ◌≤◌, ◌∷◌, [], IfOk};
 ghost use Rattle.std.specs.Result.{IfErr};
@@ -16,7 +16,7 @@ use tv_cover::{Covered, cover};
 use tv_farkas::{Budget, CoverFault};
 use tv_linear::{Poly, Row, push_item};
 
-/// A proof that each whole point of the rows meets the row, or one that does not.
+/// A proof that each integer point of the rows meets the row, or one that does not.
 fn asked(alloc: Global, ambient: &Poly, row: Row, budget: &Budget) -> Result<Covered, CoverFault>
     requires bounded { ambient.now.columns < 2 ^ 32 - 1 }
     requires even { AreEven ambient.now.columns ambient.now.rows.items }
@@ -34,7 +34,7 @@ fn asked(alloc: Global, ambient: &Poly, row: Row, budget: &Budget) -> Result<Cov
     cover(alloc, ambient, &targets, budget)
 }
 
-/// Whether each whole point of the rows meets the row. What was seen or shown before is looked at first, and what is found is put to it.
+/// Whether each integer point of the rows meets the row. What was seen or shown before is looked at first, and what is found is put to it.
 pub fn is_met_by_all(
     alloc: Global,
     ambient: &Poly,

@@ -5,7 +5,7 @@ ghost use Rattle.tv_invariant.specs.Failing.{FailsAt};
 use std::alloc::Global;
 use tv_linear::Row;
 
-/// What was found of the whole points of some rows.
+/// What was found of the integer points of some rows.
 #[derive(Drop)]
 pub struct Seen {
     /// Some of the points.

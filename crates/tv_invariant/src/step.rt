@@ -26,7 +26,7 @@ use tv_cases::Case;
 use tv_farkas::{Budget, CoverFault};
 use tv_linear::{Poly, push_copies, push_item};
 
-/// Asks for the strongest of the rows where the case leads, so that what is found of them tells of the others.
+/// Asks for the strongest of the rows where the case leads, so that what is found of them also says something of the others.
 fn ask_strongest(
     alloc: Global,
     judge: &Judge,

@@ -34,7 +34,7 @@ fn uses(tree: &CoverTree, place: usize) -> bool
     }
 }
 
-/// Which of so many rows the tree uses: those that have a multiplier other than 0 somewhere in it.
+/// Which of `count` rows the tree uses: those that have a multiplier other than 0 somewhere in it.
 pub fn marks_of(alloc: Global, tree: &CoverTree, count: usize) -> Result<Vec<bool>, AllocError>
     ensures { IfOk result (λ v. AreMarks tree.now count v.items) }
 {

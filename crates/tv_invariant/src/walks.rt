@@ -27,7 +27,7 @@ const STEPS: u32 = 40;
 /// How many of the cases from a location are tried.
 const CHOICES: usize = 64;
 
-/// Among so many of the first of them is the one that is tried first.
+/// How many of the first of them may be the one that is tried first.
 const PLACES: u32 = 8;
 
 /// A number that is at most `spread` in magnitude.
@@ -35,7 +35,7 @@ fn number(source: &mut Pcg32, spread: u16) -> i128 {
     i128::from(source.next_u32() % (2 * u32::from(spread) + 1)) - i128::from(spread)
 }
 
-/// Puts so many numbers at the end of a list.
+/// Puts `count` numbers at the end of a list.
 fn push_numbers(
     source: &mut Pcg32,
     count: u32,
@@ -88,7 +88,7 @@ fn value_after(updates: &[Update], point: &[i128], variable: u32) -> Option<i128
     Some(point[variable as usize])
 }
 
-/// The values of so many variables after the updates.
+/// The values of `variables` variables after the updates.
 fn values_after(
     alloc: Global,
     updates: &[Update],

@@ -12,7 +12,7 @@ use Rattle.tv_farkas.specs.declared.fault.CoverFault.TheVariants.{Splits, Solve,
 use Rattle.tv_candidates.specs.declared.candidate.Candidate.{Candidate}
 use Rattle.tv_candidates.specs.Inductive.{IsPart}
 use Rattle.tv_derived.specs.Scopes.{at_location, over_case}
-use Rattle.tv_derived.specs.Derived.{IsDerived, handed, guard, derived}
+use Rattle.tv_derived.specs.Derived.{IsDerived, IsUnsplit, handed, guard, derived}
 use Rattle.tv_derived.specs.Faults.{IsRefusalOf}
 use Rattle.tv_derived.proofs.Steps.{after_before, over}
 use Rattle.tv_cover_refusals.specs.Covers.{IsSpentOnTargets}
@@ -29,12 +29,12 @@ module _ (about : CaseSystem) (list : List Candidate) where
   candidate_derived h c a = handed (placed_row c) (Contains-map placed_row list c a)
 
   -- the rows that hold over a case
-  over_derived : (case : LinearCase) (now : List Candidate) → Contains about.cases case → IsPart now list → (r : Linear) → Contains (step_rows case now) r → IsDerived about (handed_candidates list) (over_case case) 1 r
+  over_derived : (case : LinearCase) (now : List Candidate) → Contains about.cases case → IsPart now list → (r : Linear) → Contains (step_rows case now) r → IsUnsplit about (handed_candidates list) (over_case case) 1 r
   over_derived case now among part r k = elim (Contains-append_cases (map (padded_row case.draws) (rows_at case.from now)) case.guards r k) [
-    | inl known ↦ All-contains (IsDerived about (handed_candidates list) (over_case case) 1) (map (padded_row case.draws) (rows_at case.from now)) r
-        (all_at case.draws case.from (IsDerived about (handed_candidates list) (over_case case) 1) now
-        (λ d a e. over about (handed_candidates list) case 1 d.row (subst (λ l. IsDerived about (handed_candidates list) (at_location l) 1 d.row) e (candidate_derived 1 d (part d a))))) known
-    | inr of ↦ guard case r among of
+    | inl known ↦ All-contains (IsUnsplit about (handed_candidates list) (over_case case) 1) (map (padded_row case.draws) (rows_at case.from now)) r
+        (all_at case.draws case.from (IsUnsplit about (handed_candidates list) (over_case case) 1) now
+        (λ d a e. over about (handed_candidates list) case 1 d.row among (subst (λ l. IsDerived about (handed_candidates list) (at_location l) 1 d.row) e (candidate_derived 1 d (part d a))))) known
+    | inr of ↦ derived r (guard case r among of)
   ]
 
   module _ (case : LinearCase) (c : Candidate) (among : Contains about.cases case) (even : columns c.row ≡ about.variables) (put : IsDerived about (handed_candidates list) (at_location case.to) 0 c.row) (pivots splits : ℕ) where
@@ -47,7 +47,7 @@ module _ (about : CaseSystem) (list : List Candidate) where
     uncovered : (now : List Candidate) → IsPart now list → (fault : CoverFault) → IsCoverRefusal about.variables case now pivots splits c fault → IsRefusalOf about (handed_candidates list) 1 pivots (IsSpentOnTargets about (handed_candidates list) 1 1 splits) fault
     uncovered now part fault h =
         refusal about (handed_candidates list) (over_case case) 1 ((h.row ∷ []) ∷ []) (one_target about (handed_candidates list) (over_case case) 1 h.row (after_before c.row case among even (Ok h.row) put h.made)) 1 h.rows pivots splits fault
-        (λ r a. derived r (over_derived case now among part r (h.from r a))) (omega arith) h.refused
+        (λ r a. over_derived case now among part r (h.from r a)) (omega arith) h.refused
 
 pub refuses : (about : CaseSystem) → InductiveRefuses about
 refuses about list pivots splits fault even h = elim h [

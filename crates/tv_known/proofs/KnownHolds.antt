@@ -20,7 +20,7 @@ use Rattle.tv_known.proofs.RankedEnds.{every_run_ends}
 use Rattle.tv_known.proofs.RoundLemmas.{stays_state, growing_right, shrinking_right}
 
 module _ (about : CaseSystem) (cases : All (IsCase about.variables about.locations) about.cases) where
-  -- ---- a ranked fixed point is met at each state
+  -- ---- a ranked fixpoint is met at each state
   ranked_must : (f g : State → Type 0) → ((s : State) → IsStateOf about s → g s ⊎ (f s × Goes about s)) → {s : State} → IsStateOf about s → Ends (CaseSteps about) s → Must (CaseSteps about) f g s
   ranked_must f g goes {s} is (all_end e) = elim (goes s is) [
     | inl now ↦ reached now

@@ -163,7 +163,7 @@ module _ (about : CaseSystem) where
     pub unless_followed : AllEnd (without c set) → AllEnd (without d set) → AllEnd set
     unless_followed first second s even = before second (first s even) even
 
-  -- ---- a set of which each case follows each is ranked
+  -- ---- a set in which each case follows each is ranked
 
   module _ (set : List ℕ) (numbered : (k : ℕ) → Among k set → k < length about.cases) (follow : (c d : ℕ) → Among c set → Among d set → Follows c d) where
     own : (k : ℕ) → k < length set → Among (get_or set k 0) set

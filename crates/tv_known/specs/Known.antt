@@ -30,7 +30,7 @@ abbrev pub IsRankedOn : CaseSystem → Path → Shape → (State → Type 0) →
 IsRankedOn about Every shape f g = IsRanked about shape f g
 IsRankedOn about Any shape f g = ⊥
 
--- for Until and Strong the states of the last round, or all states where the fixed point is ranked; for Weak and Release those of a round
+-- for Until and Strong the states of the last round, or all states where the fixpoint is ranked; for Weak and Release those of a round
 -- that equals the next one
 abbrev pub FixKnown : CaseSystem → ℕ → Path → Shape → (State → Type 0) → (State → Type 0) → State → Type 0
 FixKnown about last path Until f g s = FixRound about path Until f g last s ⊎ IsRankedOn about path Until f g

@@ -50,7 +50,7 @@ MustReach Strong = Unit {0}
 MustReach Weak = ⊥
 MustReach Release = ⊥
 
--- each state is at the end of the fixed point of two properties, or on its way with a step
+-- each state is at the end of the fixpoint of two properties, or on its way with a step
 abbrev pub GoesOn : CaseSystem → Shape → Property → Property → Type 0
 GoesOn about shape left right =
     (s : State) → IsStateOf about s → EndSides shape (λ t. Holds (CaseSteps about) left t) (λ t. Holds (CaseSteps about) right t) s
@@ -75,7 +75,7 @@ pub record IsRankedUntil (about : CaseSystem) (f : Property) : Type 0 where
 abbrev pub Decides : CaseSystem → (State → Type 0) → Type 0
 Decides about p = (s : State) → IsStateOf about s → p s ⊎ (¬ (p s))
 
--- what has to be told, for each state where the fixed point holds to be in a settled round
+-- what has to be told, for each state where the fixpoint holds to be in a settled round
 abbrev pub CanTellBy : Bool → CaseSystem → Path → (State → Type 0) → (State → Type 0) → ℕ → Type 0
 CanTellBy true about path hold end k = Unit {0}
 CanTellBy false about Every hold end k = Decides about end
@@ -84,7 +84,7 @@ CanTellBy false about Any hold end k = Decides about hold × Decides about (Goes
 abbrev pub CanTell : CaseSystem → Path → Shape → (State → Type 0) → (State → Type 0) → ℕ → Type 0
 CanTell about path shape hold end k = CanTellBy (must_end shape) about path hold end k
 
--- in a settled round are only states where the fixed point holds
+-- in a settled round are only states where the fixpoint holds
 abbrev pub SettledIsRight : CaseSystem → Path → Shape → (State → Type 0) → (State → Type 0) → ℕ → Type 0
 SettledIsRight about path shape hold end k =
     IsSettled about path shape hold end k → (s : State) → IsStateOf about s → Round about path shape hold end k s → SidesHold about path shape hold end s
@@ -113,7 +113,7 @@ StandsIn f part = Contains (subformulas (normal f) ++ subformulas (negation f)) 
 abbrev pub SizeBoundsCounts : CaseSystem → ℕ → Property → Type 0
 SizeBoundsCounts about last f = (part : Property) (l : ℕ) → StandsIn f part → l < about.locations → count about.cases last part l ≤ size_bound about last f
 
--- and so is that of each round of each fixed point, up to the last
+-- and so is that of each round of each fixpoint, up to the last
 abbrev pub SizeBoundsRounds : CaseSystem → ℕ → Property → Type 0
 SizeBoundsRounds about last f =
     (path : Path) (shape : Shape) (left right : Property) (k l : ℕ) → StandsIn f (fix path shape left right) → k ≤ last → l < about.locations

@@ -73,7 +73,7 @@ abbrev pub weight : List Property → ℕ
 weight [] = 0
 weight (f ∷ fs) = own_weight f + weight fs
 
--- at most 10 times in a program with a cycle, and 10 more for each next and fixed point of the normal property; `term` counts as two
+-- at most 10 times in a program with a cycle, and 10 more for each next and fixpoint of the normal property; `term` counts as two
 abbrev pub IsAllowed : CaseSystem → Property → ℕ → Type 0
 IsAllowed about f h = HasCycle about → h ≤ 10 * suc (weight (subformulas (normal f)))
 
@@ -87,7 +87,7 @@ IsUnreachable l f = normal f ≡ never_at l
 
 -- ---- what is not settled
 
--- the property is a fixed point, or `term` or its negation, that round k does not settle
+-- the property is a fixpoint, or `term` or its negation, that round k does not settle
 abbrev pub IsUnsettledNot : CaseSystem → ℕ → Property → Type 0
 IsUnsettledNot about k term = IsFixSettled about Any Release (λ s. ⊥) (Goes about) k → ⊥
 IsUnsettledNot about k f = ⊥

@@ -19,14 +19,14 @@ pub fn ranked_cases_end()
     ensures program { (p : System) (about : CaseSystem) → AreCasesOf p about → HasLexicographicRanking about → ProgramEnds p }
 {}
 
-/// The sides of a fixed point: the states on the way, and those at the end.
+/// The sides of a fixpoint: the states on the way, and those at the end.
 pub trait Sides {
     ghost hold: { State → Type 0 };
 
     ghost end: { State → Type 0 };
 }
 
-/// A round that equals the next one has the states where the fixed point holds: only those, and all where each side can be told.
+/// A round that equals the next one has the states where the fixpoint holds: only those, and all where each side can be told.
 pub fn settled_round_is_exact<S: Sides>()
     ensures right { (about : CaseSystem) → AreProper about → (path : Path) (shape : Shape) (k : ℕ) → SettledIsRight about path shape S.hold S.end k }
     ensures all { (about : CaseSystem) → AreProper about → (path : Path) (shape : Shape) (k : ℕ) → SettledHasAll about path shape S.hold S.end k }
@@ -38,7 +38,7 @@ pub fn known_states_are_right()
     ensures program { (p : System) (about : CaseSystem) → AreCasesOf p about → (f : Property) → KnownHoldsIn p about f }
 {}
 
-/// A fixed point that every run must reach is decided, where its sides are properties of one state and the cases have a ranking.
+/// A fixpoint that every run must reach is decided, where its sides are properties of one state and the cases have a ranking.
 pub fn ranked_until_is_decided()
     ensures { (about : CaseSystem) (f : Property) → IsRankedUntil about f → IsDecided about f }
 {}

@@ -29,7 +29,7 @@ with_gap None more = 0
 with_gap (Some zero) more = 0
 with_gap (Some (suc n)) more = more n
 
--- how many bytes the blanks and comments have, with so many bytes left of the present one
+-- how many bytes the blanks and comments have, with n bytes left of the present one
 abbrev pub gaps_after : ℕ → List ℕ → ℕ
 gaps_after n [] = 0
 gaps_after zero (b ∷ bs) = with_gap (gap_of (b ∷ bs)) (λ n. 1 + gaps_after n bs)

@@ -40,7 +40,7 @@ over_at v [] l h = All-nil (λ r. columns r ≡ v)
 over_at v (p ∷ ps) zero h = All-head (λ p. All (λ r. columns r ≡ v) (piece_rows p)) p ps h
 over_at v (p ∷ ps) (suc l) h = over_at v ps l (All-tail (λ p. All (λ r. columns r ≡ v) (piece_rows p)) p ps h)
 
--- rows over v variables have room for so many columns more
+-- rows over v variables have room for `more` further columns
 pub have_room : (v more : ℕ) (rows : List Linear) → v + more < 2 ^ 32 - 1 → All (λ r. columns r ≡ v) rows → All (λ r. columns r + more < 2 ^ 32 - 1) rows
 have_room v more rows l h = All-weaker (λ r. columns r ≡ v) (λ r. columns r + more < 2 ^ 32 - 1) (λ r e. omega (arith, e, l)) rows h
 

@@ -50,7 +50,7 @@ module _ (v : ℕ) (c : LinearCase) (front more back : List Linear) where
       ∙ append_assoc (as_given front) (as_given more ++ as_given back) (as_given c.guards)
       ∙ ap (λ ks. as_given front ++ ks) (append_assoc (as_given more) (as_given back) (as_given c.guards))
 
-  -- a list that refutes rows of which those in front are the first refutes them with more after these
+  -- a list that refutes rows that begin with `front` refutes them with `more` after `front`, once zeros are put in
   put_refutes : (place many : ℕ) (ys : List Known) (ms : List ℤ) → length front ≡ place → length more ≡ many → Refutes n (as_given front ++ ys) ms → Refutes n (as_given front ++ (as_given more ++ ys)) (put_in place many ms)
   put_refutes place many ys ms e f h =
       let a = h.as_many in

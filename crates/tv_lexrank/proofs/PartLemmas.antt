@@ -5,6 +5,7 @@ use Rattle.tv_rank.specs.Ways.{case_at}
 use Rattle.std.specs.Global.{Global}
 use Rattle.tv_rank.specs.Given.{lists}
 use Rattle.tv_lexrank.specs.declared.greedy.Greedy.TheVariants as greedy
+use Rattle.tv_lexrank.specs.declared.round.Round.{Round}
 use Rattle.tv_lexrank.specs.Greedy.{IsGreedy}
 use Rattle.tv_known.specs.Ranking.{AreInside}
 use Rattle.tv_lexrank.specs.Sorting.{Ascends, AreSorted}
@@ -25,11 +26,11 @@ are_inside about known numbers component set empty refutations limits grouped h 
 }
 
 -- what is left is stuck
-pub stuck_left : (about : CaseSystem) (known : List Piece) (set : List ℕ) (left : Vec ℕ Global) (barriers : Vec (Vec ℤ Global) Global) → Ascends set → AreInside about set → IsGreedy about known set (greedy.Left left barriers) → IsStuck about known left.items (lists barriers.items)
-stuck_left about known set left barriers h within (rounds, lead, nonempty, points, bars) = record {
+pub stuck_left : (about : CaseSystem) (known : List Piece) (set : List ℕ) (rounds : Vec Round Global) (left : Vec ℕ Global) (barriers : Vec (Vec ℤ Global) Global) → Ascends set → AreInside about set → IsGreedy about known set (greedy.Left rounds left barriers) → IsStuck about known left.items (lists barriers.items)
+stuck_left about known set rounds left barriers h within (lead, nonempty, points, bars) = record {
   nonempty = nonempty;
-  ascends = ascends_left about known set rounds left.items lead h;
-  inside = inside_left about known set rounds left.items lead within;
+  ascends = ascends_left about known set rounds.items left.items lead h;
+  inside = inside_left about known set rounds.items left.items lead within;
   points = points;
   each_barred = bars;
 }

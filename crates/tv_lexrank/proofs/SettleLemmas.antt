@@ -19,7 +19,7 @@ use Rattle.tv_lexrank.specs.Refusing.{refusal_of}
 use Rattle.tv_lexrank.proofs.MetLemmas.{taken_padded}
 
 pub taken_met : (v n : ℕ) (w : Way) (rows : List Linear) (o : Option (Vec ℤ Global)) → n ≡ v + w.taken.draws → rows ≡ padded_rows w → IsSettled n rows o → IsTaken v w o
-taken_met v n w rows o e f h = taken_padded v w o (subst (λ m. IsSettled m (padded_rows w) o) e (subst (λ z. IsSettled n z o) f h))
+taken_met v n w rows o e f h = taken_padded v w o (rw (← e) (rw (← f) h))
 
 -- the refusal of the refutation system of the guards of a case
 pub guards_unsolved : (n pivots k : ℕ) (rows : List Linear) (e : SolveFault) → IsRefusal n rows pivots e → RefusesGuards n rows pivots k (refusal_of (name.Empty k) e)
@@ -38,7 +38,7 @@ module _ (about : CaseSystem) (known : List Piece) (pivots k n : ℕ) (rows : Li
       by_name : (system : Name) → RefusesRows n rows pivots (fault.Solve system e) → RefusesCase about known pivots k (fault.Solve system e)
       by_name (name.Empty number) g = absurd g
       by_name (name.Rank c r falling) g = absurd g
-      by_name (name.Rows kept) g = (have, subst (λ z. TakenOnce z kept.items) f g.0, subst (λ m. IsSystemFault m kept.items pivots e) wide g.1)
+      by_name (name.Rows kept) g = (have, rw (← f) g.0, rw (← wide) g.1)
       by_name (name.Later s falling) g = absurd g
   rows_refused have f fault.Memory h = tt
 
@@ -48,7 +48,7 @@ module _ (about : CaseSystem) (known : List Piece) (pivots k n : ℕ) (rows : Li
   guards_refused bare f (fault.Solve system e) h = by_name system h
     where
       at_case : IsSystemFault n rows pivots e → IsSystemFault (about.variables + (case_at about.cases k).draws) (case_at about.cases k).guards pivots e
-      at_case g = subst (λ m. IsSystemFault m (case_at about.cases k).guards pivots e) wide (subst (λ z. IsSystemFault n z pivots e) f g)
+      at_case g = rw (← wide) (rw (← f) g)
 
       by_name : (system : Name) → RefusesGuards n rows pivots k (fault.Solve system e) → RefusesCase about known pivots k (fault.Solve system e)
       by_name (name.Empty number) g = (bare, g.0, at_case g.1)
@@ -64,7 +64,7 @@ case_refused about known numbers component pivots k (fault.Cover g) k_in inside 
 case_refused about known numbers component pivots k (fault.Solve system e) k_in inside before h = by_name system h
   where
     by_name : (system : Name) → RefusesCase about known pivots k (fault.Solve system e) → RefusesSorting about known numbers component pivots (fault.Solve system e)
-    by_name (name.Empty number) g = subst (λ z. RefusesSorting about known numbers component pivots (fault.Solve (name.Empty z) e)) (sym g.1) (g.0, k_in, inside, g.2, before)
+    by_name (name.Empty number) g = rw g.1 (g.0, k_in, inside, g.2, before)
     by_name (name.Rank c r falling) g = absurd g
     by_name (name.Rows rows) g = (g.0, (k, k_in, inside, g.1, g.2, before))
     by_name (name.Later s falling) g = absurd g

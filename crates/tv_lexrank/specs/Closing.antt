@@ -106,8 +106,8 @@ pub record IsUncovered (about : CaseSystem) (known : List Piece) (budget : Budge
       IsCoverFault (about.variables + (case_at about.cases k).draws) (rows_before (case_at about.cases k) (rows_at known (case_at about.cases k).to) ∷ [])
       (padded_rows (way_of about.cases known k)) budget.pivots budget.splits f
 
--- It is not settled whether the case leads into the rows that are known where it ends, of which there are some: before the case one of
--- them is too wide, or the cover into these has the fault.
+-- It is not settled whether the case leads into the rows that are known where it ends. There are some such rows. Before the case one of
+-- them is too wide, or the cover into them has the fault.
 pub record IsUnsettled (about : CaseSystem) (known : List Piece) (budget : Budget) (k : ℕ) (f : CoverFault) : Type 0 where
   pub numbered : k < length about.cases
   pub some : 0 < length (rows_at known (case_at about.cases k).to)

@@ -12,11 +12,11 @@ use Rattle.tv_rank.specs.Given.{lists}
 use Rattle.tv_lexrank.specs.Closing.{owed_plain}
 use Rattle.tv_lexrank.specs.declared.falling.Fall.{Fall}
 
--- the line with so many zeros put in at a place
+-- the line with `many` zeros put in at a place
 abbrev pub put_in : ℕ → ℕ → List ℤ → List ℤ
 put_in place many line = take place line ++ (zeros many ++ drop place line)
 
--- the line with so many zeros before its last number
+-- the line with `above` zeros before its last number
 abbrev pub spread : ℕ → List ℤ → List ℤ
 spread above line = put_in (length line - 1) above line
 
@@ -29,8 +29,8 @@ abbrev pub AllHeld : ℕ → List Known → Type 0
 AllHeld n [] = Unit {0}
 AllHeld n (k ∷ ks) = ((j : ℕ) → j < n → KnownHeld k (Some j)) × KnownHeld k None × AllHeld n ks
 
--- Where the lines show the rows of a fall, and the old cover is met by what is owed without it, the new one is met by what is owed with it;
--- so many of the rows at the place are those of the splits above.
+-- Where the lines show the rows of a fall, and the old cover is met by what is owed without it, the new one is met by what is owed with it.
+-- `above` of the rows at the place are those of the splits above.
 abbrev pub GoesOn : Fall → ℕ → CoverTree → CoverTree → Type 0
 GoesOn fall above old new =
     (n : ℕ) (known sides rows falls : List Known) (wanted : ℕ → ℕ → Option (List Known)) →

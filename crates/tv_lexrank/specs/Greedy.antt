@@ -56,11 +56,11 @@ abbrev pub IsTurn : CaseSystem → List Piece → List ℕ → Turn → Type 0
 IsTurn about known set (Took round) = IsRound about known set round
 IsTurn about known set (Stuck barriers) = AreBarriers about known set (lists barriers.items)
 
--- what the rounds give: the set is emptied, or what is left of it is stuck
+-- what the rounds give: they lead to the empty set, or to a set that is stuck
 abbrev pub IsGreedy : CaseSystem → List Piece → List ℕ → Greedy → Type 0
 IsGreedy about known set (greedy.Emptied rounds) = Lead about known set rounds.items []
-IsGreedy about known set (greedy.Left left barriers) =
-    (rounds : List Round) × Lead about known set rounds left.items × (0 < length left.items) × PointsOf about known left.items × AreBarriers about known left.items (lists barriers.items)
+IsGreedy about known set (greedy.Left rounds left barriers) =
+    Lead about known set rounds.items left.items × (0 < length left.items) × PointsOf about known left.items × AreBarriers about known left.items (lists barriers.items)
 
 -- A refusal of one round: the ranking system of the set, where the named case falls, has the fault, which is no want of memory; over no case
 -- before it some family falls.
@@ -96,7 +96,7 @@ RefusesTurn about known set pivots component round (fault.Open taken values) = �
 RefusesTurn about known set pivots component round (fault.Cover f) = ⊥
 RefusesTurn about known set pivots component round fault.Memory = Unit {0}
 
--- A refusal of a round: the named system is the ranking system of what so many rounds leave of the set.
+-- A refusal of a round: the named system is the ranking system of what `round` rounds leave of the set.
 pub record RefusesRound (about : CaseSystem) (known : List Piece) (set : List ℕ) (pivots : ℕ) (round falling : ℕ) (e : SolveFault) : Type 0 where
   pub rounds : List Round
   pub as_many : length rounds ≡ round
@@ -120,7 +120,7 @@ RefusesGreedy about known set pivots component fault.Memory = Unit {0}
 
 abbrev pub IsEmptied : Greedy → Type 0
 IsEmptied (greedy.Emptied rounds) = Unit {0}
-IsEmptied (greedy.Left left barriers) = ⊥
+IsEmptied (greedy.Left rounds left barriers) = ⊥
 
 abbrev pub RefusesTurnIn : Component → List ℕ → ℕ → RankFault → Type 0
 RefusesTurnIn c set round e = RefusesTurn (cases_of c.about.now) c.known.now.pieces.items set c.pivots c.number round e

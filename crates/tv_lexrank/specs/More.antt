@@ -10,7 +10,7 @@ use Rattle.tv_lexrank.specs.Shown.{IsShownBy}
 abbrev pub way_with : LinearCase → List Linear → Way
 way_with c known = record { taken = c; known = known }
 
--- Whatever the first shows under some rows, the second shows it where so many more are known, after so many of these.
+-- Whatever the first shows under some rows, the second shows it where `many` more are known, after the first `place` of these.
 abbrev pub IsUnderMore : ℕ → ℕ → CaseShown → CaseShown → Type 0
 IsUnderMore place many old new =
     (v : ℕ) (c : LinearCase) (front more back : List Linear) (before after : List Linear) → length front ≡ place → length more ≡ many →

@@ -12,12 +12,12 @@ use Rattle.tv_lexrank.specs.declared.ranking.Ranking.{Ranking}
 use Rattle.tv_lexrank.specs.Rounds.{ranks_at}
 use Rattle.tv_lexrank.specs.Attempt.{rounds_in}
 
--- so many terms that are 0
+-- `zero_ranks v n`: n terms that are 0
 abbrev pub zero_ranks : ℕ → ℕ → List Linear
 zero_ranks v zero = []
 zero_ranks v (suc n) = zero_ranks v n ++ constant_row v (pos 0) ∷ []
 
--- the ranks at a location of a component, with terms that are 0 after them up to so many
+-- the ranks at a location of a component, with terms that are 0 after them up to `count` ranks
 abbrev pub padded_ranks : ℕ → ℕ → List Round → ℕ → ℕ → List Linear
 padded_ranks v component rounds l count = ranks_at v component rounds l ++ zero_ranks v (count - 1 - length rounds)
 

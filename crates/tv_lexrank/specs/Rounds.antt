@@ -13,7 +13,7 @@ abbrev pub place_in : List ℕ → ℕ → ℕ
 place_in [] k = 0
 place_in (x ∷ xs) k = if x == k then 0 else suc (place_in xs k)
 
--- the multipliers at a place of a round, of which the last are those of the bound
+-- The multipliers at a place of a round. The last are those of the bound.
 abbrev pub line_at : Round → ℕ → List ℤ
 line_at r i = get_or (lists r.multipliers.items) i []
 

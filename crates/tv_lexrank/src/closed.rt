@@ -22,7 +22,7 @@ use tv_farkas::{Budget, CoverFault};
 use tv_linear::{Cover, CoverTree, Poly, Region, Row, RowFault};
 
 /// The cover by one target without rows, into which no fall is owed.
-pub(crate) fn whole_cover(alloc: Global) -> Cover
+pub fn whole_cover(alloc: Global) -> Cover
     ensures { IsWholeCover result }
 {
     let tree = CoverTree::Into {

@@ -37,7 +37,7 @@ fn lesser(a: usize, b: usize) -> usize
     if a < b { a } else { b }
 }
 
-/// The numbers with so many zeros put in at a place, or after them all.
+/// The numbers with `many` zeros put in at a place, or after them all.
 pub fn put_in(
     alloc: Global,
     line: &[i64],
@@ -55,14 +55,14 @@ pub fn put_in(
     Ok(all)
 }
 
-/// The multipliers with 0 for each of so many rows before the last.
+/// The multipliers with 0 for each of `above` rows before the last.
 fn spread(alloc: Global, line: &[i64], above: usize) -> Result<Vec<i64>, AllocError>
     ensures { IfOk result (λ v. v.items ≡ spec_spread above line.now) }
 {
     put_in(alloc, line, line.len().saturating_sub(1), above)
 }
 
-/// Puts the lines at the end of lists, each spread over so many rows more.
+/// Puts the lines at the end of lists, each spread over `above` more rows.
 pub fn append_spread(
     alloc: Global,
     lists: &mut Vec<Vec<i64>>,
@@ -83,7 +83,7 @@ fn number_of(fall: &Fall) -> u32
     fall.number
 }
 
-/// The cover, below so many splits, with the lines of the fall after those of each target.
+/// The cover, below `above` splits, with the lines of the fall after those of each target.
 pub fn with_fall(
     alloc: Global,
     tree: &CoverTree,

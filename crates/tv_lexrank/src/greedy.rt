@@ -25,7 +25,9 @@ pub enum Turn {
 #[derive(Drop)]
 pub enum Greedy {
     Emptied(Vec<Round>),
+    /// The rounds that lead to the set that is left, and a barrier for each case of it.
     Left {
+        rounds: Vec<Round>,
         left: Vec<u32>,
         barriers: Vec<Vec<i128>>,
     },
@@ -151,7 +153,13 @@ pub fn rounds_of(alloc: Global, component: &Component, set: Vec<u32>) -> Result<
             Err(fault) => return Err(fault),
         };
         match turn {
-            Turn::Stuck(barriers) => return Ok(Greedy::Left { left, barriers }),
+            Turn::Stuck(barriers) => {
+                return Ok(Greedy::Left {
+                    rounds,
+                    left,
+                    barriers,
+                });
+            }
             Turn::Took(taken) => {
                 left = without(alloc, &left, taken.place)?;
                 push_item(&mut rounds, taken)?;

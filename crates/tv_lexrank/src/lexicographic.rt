@@ -41,7 +41,7 @@ pub fn arcs_of(alloc: Global, list: &[Case]) -> Result<Vec<Arc>, AllocError>
 }
 
 /// One more than the greatest number.
-fn count_of(numbers: &[u32]) -> u32
+pub fn count_of(numbers: &[u32]) -> u32
     requires { All (λ n. n < 1024) numbers.now }
     ensures below { AreBelow result numbers.now }
     ensures bounded { result ≤ 1024 }
@@ -92,7 +92,7 @@ fn ranked_parts(
 }
 
 /// The components of the location graph, by the number of each location.
-fn components_of(alloc: Global, about: &Cases) -> Result<Vec<u32>, AllocError>
+pub fn components_of(alloc: Global, about: &Cases) -> Result<Vec<u32>, AllocError>
     ensures components { IfOk result (λ v. AreComponents (cases_of about.now) v.items) }
     ensures below { IfOk result (λ v. All (λ n. n < 1024) v.items) }
 {

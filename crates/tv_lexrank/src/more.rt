@@ -10,7 +10,7 @@ use crate::falling::{Fall, put_in};
 use std::alloc::{AllocError, Global};
 use tv_linear::push_item;
 
-/// Copies of lists, each with so many zeros put in at a place.
+/// Copies of lists, each with `many` zeros put in at a place.
 fn put_in_each(
     alloc: Global,
     lists: &[Vec<i64>],
@@ -26,7 +26,7 @@ fn put_in_each(
     Ok(all)
 }
 
-/// A fall whose lines have so many zeros put in at a place.
+/// A fall whose lines have `many` zeros put in at a place.
 fn fall_under(alloc: Global, fall: &Fall, place: usize, many: usize) -> Result<Fall, AllocError>
     ensures number { IfOk result (λ f. f.number ≡ fall.now.number) }
     ensures lines { IfOk result (λ f. lists_of f.lines.items ≡ map (spec_put_in place many) (lists_of fall.now.lines.items)) }
@@ -38,7 +38,7 @@ fn fall_under(alloc: Global, fall: &Fall, place: usize, many: usize) -> Result<F
     })
 }
 
-/// What shows a case under more rows that are known where it starts: so many more, after the first `place` of those under which it was
+/// What shows a case under more rows that are known where it starts: `many` more, after the first `place` of those under which it was
 /// shown. Their multipliers are 0.
 pub fn under_more(
     alloc: Global,

@@ -47,7 +47,13 @@ pub fn part_of(alloc: Global, component: &Component) -> Result<Parted, RankFault
     match rounds_of(alloc, component, set) {
         Err(fault) => Err(fault),
         Ok(Greedy::Emptied(rounds)) => Ok(Parted::Done(Part { sorted, rounds })),
-        Ok(Greedy::Left { left, barriers }) => Ok(Parted::Stuck {
+        Ok(
+            Greedy::Left {
+                rounds: _rounds,
+                left,
+                barriers,
+            },
+        ) => Ok(Parted::Stuck {
             set: left,
             barriers,
         }),

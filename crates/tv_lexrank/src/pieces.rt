@@ -17,7 +17,7 @@ use tv_linear::{Row, push_item};
 use tv_rank::LocalTerm;
 
 /// A copy of the term at a location.
-fn term_at(
+pub fn term_at(
     alloc: Global,
     variables: u32,
     terms: &[LocalTerm],
@@ -36,8 +36,8 @@ fn term_at(
     Ok(row)
 }
 
-/// Puts so many terms that are 0 at the end of the list.
-fn push_zeros(
+/// Puts `count` terms that are 0 at the end of the list.
+pub fn push_zeros(
     ranks: &mut Vec<Row>,
     alloc: Global,
     variables: u32,
@@ -53,7 +53,7 @@ fn push_zeros(
     Ok(())
 }
 
-/// The ranks at a location of a component: the number of the component, the terms of its rounds, and zeros up to so many.
+/// The ranks at a location of a component: the number of the component, the terms of its rounds, and zeros up to `count` ranks.
 fn ranks_of(
     alloc: Global,
     variables: u32,

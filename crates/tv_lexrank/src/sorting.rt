@@ -59,7 +59,7 @@ fn settle_guards(
     }
 }
 
-/// Multipliers that refute rows of which some may be repeated, or `None` where they have a rational point.
+/// Multipliers that refute rows, or `None` where the rows have a rational point. Some of the rows may be repeated.
 fn settle_rows(
     alloc: Global,
     rows: &[Row],
@@ -106,7 +106,7 @@ pub fn case_of(about: &Cases, number: u32) -> &Case
     case_in(about.list(), number)
 }
 
-/// The same of the rows that are met where the case with a number is taken, of which some are known.
+/// The same of the rows that are met where the case with a number is taken. Some of these rows are known.
 fn settle_met(
     alloc: Global,
     component: &Component,

@@ -16,7 +16,7 @@ use Rattle.tv_farkas.specs.declared.fault.CoverFault.{CoverFault}
 use Rattle.tv_farkas.specs.declared.fault.CoverFault.TheVariants.{Splits, Solve, Wide, Memory}
 use Rattle.tv_cover.specs.Covering.{IsCoverFault}
 use Rattle.tv_derived.specs.Scopes.{at_location, over_case, Placed, placed}
-use Rattle.tv_derived.specs.Derived.{IsDerived, handed, guard, derived, unsplit}
+use Rattle.tv_derived.specs.Derived.{IsDerived, IsUnsplit, handed, guard, derived, unsplit}
 use Rattle.tv_derived.specs.Faults.{IsRefusalOf}
 use Rattle.tv_derived.proofs.Listing.{handed_list}
 use Rattle.tv_derived.proofs.Steps.{after_before, over}
@@ -67,13 +67,13 @@ module _ (about : CaseSystem) (known : List Piece) where
     wide : (l : ℕ) (r : Linear) → Contains (rows_at known l) r → columns r ≡ about.variables
     wide l r a = All-contains (λ r. columns r ≡ about.variables) (rows_at known l) r (over_at about.variables known l fits.over) a
 
-    pub over_derived : (h : ℕ) (r : Linear) → Contains (padded_rows (way_of about.cases known k)) r → IsDerived about base (over_case c) h r
+    pub over_derived : (h : ℕ) (r : Linear) → Contains (padded_rows (way_of about.cases known k)) r → IsUnsplit about base (over_case c) h r
     over_derived h r a = elim (Contains-append_cases (map (padded_row c.draws) (rows_at known c.from)) c.guards r a) [
       | inl there ↦
           let from = Contains-from_map (padded_row c.draws) (rows_at known c.from) r there in
-          subst (IsDerived about base (over_case c) h) from.2
-          (over about base c h from.0 (row_derived h c.from from.0 from.1))
-      | inr of ↦ guard c r among of
+          subst (IsUnsplit about base (over_case c) h) from.2
+          (over about base c h from.0 among (row_derived h c.from from.0 from.1))
+      | inr of ↦ derived r (guard c r among of)
     ]
 
     -- the rows before the case are derived where they fit
@@ -94,7 +94,7 @@ module _ (about : CaseSystem) (known : List Piece) where
     uncovered budget fault h =
         refusal about base (over_case c) 1 (rows_before c (rows_at known c.to) ∷ [])
         (λ target of r a. put_derived h.fits r (subst (λ rows. Contains rows r) (sym (only_one (rows_before c (rows_at known c.to)) target of)) a))
-        1 (padded_rows (way_of about.cases known k)) budget.pivots budget.splits fault (λ r a. derived r (over_derived 1 r a)) (omega arith) h.fault
+        1 (padded_rows (way_of about.cases known k)) budget.pivots budget.splits fault (λ r a. over_derived 1 r a) (omega arith) h.fault
 
 pub steps_refuse : (about : CaseSystem) → StepsRefuse about
 steps_refuse about known budget k fault fits h = elim h.why [
@@ -110,7 +110,7 @@ rows_refuse about known numbers component pivots rows e fits (have, (k, k_in, in
   over_case (case_at about.cases k),
   record {
     list = handed_list (padded_rows (way_of about.cases known k)) rows.items taken
-        (λ r a. unsplit r (derived r (over_derived about known k k_in fits 0 r a)));
+        (λ r a. unsplit r (over_derived about known k k_in fits 0 r a));
     unsolved = unsolved;
   },
 )

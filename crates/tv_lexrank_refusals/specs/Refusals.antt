@@ -17,7 +17,7 @@ use Rattle.tv_lexrank.specs.Known.{AreKnown}
 use Rattle.tv_lexrank.specs.Closing.{IsUnsettled}
 use Rattle.tv_lexrank.specs.Sorting.{NamesInside}
 
--- the rows of pieces, of which the first has those that are known at this location, as rows handed in
+-- The rows of pieces, as rows handed in. The first piece has the rows that are known at location `l`.
 abbrev pub handed_from : ℕ → List Piece → List Placed
 handed_from l [] = []
 handed_from l (p ∷ ps) = map (placed l) p.poly.rows.items ++ handed_from (suc l) ps
@@ -25,8 +25,8 @@ handed_from l (p ∷ ps) = map (placed l) p.poly.rows.items ++ handed_from (suc 
 abbrev pub handed_known : List Piece → List Placed
 handed_known known = handed_from 0 known
 
--- where it is not settled whether a case leads into the known rows, this shows a path that has spent the splits, a list that was not solved or
--- a row that is too wide, each over rows derived from these, with one target
+-- where it is not settled whether a case leads into the known rows, this shows a path that has spent the splits, a list that was not solved
+-- or a row that is too wide, each over rows derived from these, with one target
 abbrev pub StepsRefuse : CaseSystem → Type 0
 StepsRefuse about =
     (known : List Piece) (budget : Budget) (k : ℕ) (fault : CoverFault) → AreKnown about known → IsUnsettled about known budget k fault

@@ -5,7 +5,7 @@ use Rattle.tv_linear.specs.Depth.{splits}
 use Rattle.tv_linear.specs.ChoiceDepth.{most_splits}
 use Rattle.tv_linear.specs.declared.cover.CoverTree.{CoverTree}
 
--- the covers have at most so many splits exactly where each has
+-- the covers have at most `most` splits exactly where each has
 pub most_splits-all : (most : ℕ) (covers : List CoverTree) → All (λ cover. splits cover ≤ most) covers ↔ (most_splits covers ≤ most)
 most_splits-all most covers = (below covers, each covers) where
   below : (covers : List CoverTree) → All (λ cover. splits cover ≤ most) covers → most_splits covers ≤ most

@@ -10,7 +10,7 @@ use Rattle.tv_linear.specs.Arithmetic.{zeros, constant_row, plus, opposite, scal
 use Rattle.tv_linear.specs.Fits.{IsHeld, SumsHeld, FitsComposed, IsNarrowAt}
 use Rattle.tv_linear.proofs.PlainLists.{length-zeros, get_or-zeros, length-plus_each, get_or-plus_each}
 
--- the number is told under another name
+-- the same number under another name
 pub SomeIff-same : (Fits : ℤ → Type 0) (o : Option ℤ) (z w : ℤ) → z ≡ w → SomeIff o (Fits z) z → SomeIff o (Fits w) w
 SomeIff-same Fits o z w e h = subst (λ v. SomeIff o (Fits v) v) e h
 

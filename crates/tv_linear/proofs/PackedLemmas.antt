@@ -28,7 +28,7 @@ unpacked-cons n (suc count) zs h =
     let next : suc n ≡ n + 1 = omega arith in
     λ i. first_row n zs ∷ unpacked n (fewer i) (drop (next i) zs)
 
--- each of the rows has so many columns
+-- each of the rows has n columns
 pub unpacked-columns : (n count : ℕ) (zs : List ℤ) → count * (n + 1) ≤ length zs → All (λ r. columns r ≡ n) (unpacked n count zs)
 unpacked-columns n zero zs enough = All-nil (λ r. columns r ≡ n)
 unpacked-columns n (suc count) zs enough =

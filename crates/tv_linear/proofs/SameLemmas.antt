@@ -60,7 +60,7 @@ constants n [] (q ∷ qs) h = absurd h
 constants n (k ∷ ks) [] h = absurd h
 constants n (k ∷ ks) (q ∷ qs) h = (λ i. h.0.constant i ∷ constants n ks qs h.1 i)
 
--- one more row, of which the number is the same
+-- one more row, whose number is the same
 held_more : (held : Known → Type 0) (p : Known → ℤ) (m sum : ℤ) (k q : Known) (ms : List ℤ) (qs : List Known) → p q ≡ p k → held q → IsHeld (m *ℤ p k) → IsHeld (sum +ℤ m *ℤ p k) → RowsHeld held (sum +ℤ m *ℤ p k) p ms qs → RowsHeld held sum p (m ∷ ms) (q ∷ qs)
 held_more held p m sum k q ms qs e h a b g = (
   h,

@@ -80,7 +80,7 @@ divided-met g r xs h k =
       λ met. below_zero g (m +ℤ c) h (omega (arith, ints, met, same, bounds.1, spread)),
     )
 
--- the same whole points meet the tightened row
+-- the same integer points meet the tightened row
 pub tight-met : (r : Linear) (xs : List ℤ) → IsMet xs (tight r) ↔ IsMet xs r
 tight-met r xs = by_divisor (divisor r.coefficients) (divisor_from-multiples 0 r.coefficients) where
   by_divisor : (g : ℕ) → AllMultiples g r.coefficients → IsMet xs (divided_unless_zero g r) ↔ IsMet xs r

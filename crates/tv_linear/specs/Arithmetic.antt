@@ -1,12 +1,12 @@
 use Rattle.std.specs.Prelude.{ℕ, zero, suc, ℤ, pos, neg_ℤ, ◌+ℤ◌, ◌-ℤ◌, ◌*ℤ◌, List, [], ◌∷◌, ◌++◌, map}
 use Rattle.tv_linear.specs.Linear.{Linear, linear, columns}
 
--- so many zeros
+-- n zeros
 abbrev pub zeros : ℕ → List ℤ
 zeros zero = []
 zeros (suc n) = pos 0 ∷ zeros n
 
--- the row with so many columns more, in each of which it has 0
+-- the row with `more` further columns; it has 0 in each of them
 abbrev pub padded_row : ℕ → Linear → Linear
 padded_row more r = linear (r.coefficients ++ zeros more) r.constant
 
@@ -38,7 +38,7 @@ plus r s = linear (plus_each r.coefficients s.coefficients) (r.constant +ℤ s.c
 abbrev pub opposite : Linear → Linear
 opposite r = linear (map neg_ℤ r.coefficients) (neg_ℤ r.constant)
 
--- the row `1 - r`, which whole points meet exactly where they do not meet r
+-- the row `1 - r`, which integer points meet exactly where they do not meet r
 abbrev pub denial : Linear → Linear
 denial r = linear (map neg_ℤ r.coefficients) (pos 1 -ℤ r.constant)
 

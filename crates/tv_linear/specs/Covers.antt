@@ -15,7 +15,7 @@ abbrev pub ShownAt : ℕ → List Known → Option (List Known) → List (List �
 ShownAt n known None lists = ⊥
 ShownAt n known (Some owed) lists = Shown n known owed lists
 
--- the cover is met at the known rows, which have n columns; owed tells the rows to be shown on entering a
+-- the cover is met at the known rows, which have n columns; owed gives the rows to be shown on entering a
 -- target by a fall
 abbrev pub IsMetCover : ℕ → (ℕ → ℕ → Option (List Known)) → List Known → CoverTree → Type 0
 IsMetCover n owed known (Split' r p holds q fails) =

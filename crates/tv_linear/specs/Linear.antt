@@ -13,11 +13,11 @@ linear cs k = record { coefficients = cs; constant = k }
 abbrev pub columns : Linear → ℕ
 columns r = length r.coefficients
 
--- the number at a column, of which the constant's is the last
+-- the number at a column; the constant's column is the last
 abbrev pub entry : Linear → ℕ → ℤ
 entry r column = slice_index_or r.coefficients column r.constant
 
--- a whole number below a power of two in magnitude
+-- an integer below a power of two in magnitude
 abbrev pub IsWithin : ℕ → ℤ → Type 0
 IsWithin bits z = unsigned_abs z < 2 ^ bits
 

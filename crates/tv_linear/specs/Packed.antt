@@ -10,12 +10,12 @@ packed rows = flat_map (λ r. r.coefficients ++ r.constant ∷ []) rows
 abbrev pub first_row : ℕ → List ℤ → Linear
 first_row n zs = linear (take n zs) (slice_index_or zs n (pos 0))
 
--- so many rows of n columns with which a list of numbers begins, one after another, each with its constant last
+-- the `count` rows of n columns with which a list of numbers begins, one after another, each with its constant last
 abbrev pub unpacked : ℕ → ℕ → List ℤ → List Linear
 unpacked n zero zs = []
 unpacked n (suc count) zs = first_row n zs ∷ unpacked n count (drop (suc n) zs)
 
--- the numbers begin with so many rows of n columns, each number is below 2^62 in magnitude, and the columns are counted by 32 bits
+-- the numbers begin with `count` rows of n columns, each number is below 2^62 in magnitude, and the columns are counted by 32 bits
 pub record ArePacked (n count : ℕ) (zs : List ℤ) : Type 0 where
   pub enough : count * (n + 1) ≤ length zs
   pub narrow : All (IsWithin 62) zs

@@ -3,7 +3,7 @@ use Prim.Native.Nat.{◌∣◌}
 use Rattle.std.specs.Int.{int_div_euclid}
 use Rattle.tv_linear.specs.Linear.{Linear, linear}
 
--- Euclid's algorithm, in at most so many steps
+-- Euclid's algorithm, in at most `steps` steps
 abbrev pub gcd_within : ℕ → ℕ → ℕ → ℕ
 gcd_within zero a b = a
 gcd_within (suc steps) a zero = a
@@ -22,7 +22,7 @@ divisor_from g (c ∷ cs) = divisor_from (gcd g (unsigned_abs c)) cs
 abbrev pub divisor : List ℤ → ℕ
 divisor cs = divisor_from 0 cs
 
--- the least whole number at or above the quotient
+-- the least integer at or above the quotient
 abbrev pub rounded_up : ℕ → ℤ → ℤ
 rounded_up g z = neg_ℤ (int_div_euclid (neg_ℤ z) (pos g))
 

@@ -6,7 +6,7 @@ use crate::cover::{Cover, MAX_SPLITS, has_splits_within};
 use crate::row::Row;
 use std::marker::Model;
 
-/// A proof that from each whole point of a place some step leads into a target, or that no step leads
+/// A proof that from each integer point of a place some step leads into a target, or that no step leads
 /// anywhere.
 #[derive(Drop)]
 pub enum ChoiceTree {

@@ -10,7 +10,7 @@ use crate::narrow::{denial, difference, narrow, opposite, sum};
 use crate::row::Row;
 use crate::sums::{Numbers, dot_from};
 
-/// The columns of a row that is to be made, of which the constant's is the last.
+/// The columns of a row that is to be made. The constant's column is the last.
 pub trait Columns {
     /// The row that is meant.
     ghost meant: { Self → Linear };

@@ -7,7 +7,7 @@ ghost use Rattle.tv_linear.specs.Arithmetic.{padded_row};
 use crate::Row;
 use std::alloc::{AllocError, Global};
 
-/// Puts copies of the rows, each of which is narrow, at the end of a list.
+/// Puts copies of the rows at the end of a list. Each row is narrow.
 pub fn push_copies(alloc: Global, rows: &[Row], list: &mut Vec<Row>) -> Result<(), AllocError>
     ensures copied { IfOk result (λ _. list.new.items ≡ list.old.items ++ rows.now) }
     ensures narrow { IfOk result (λ _. All IsNarrow rows.now) }
@@ -46,7 +46,7 @@ pub fn joined(alloc: Global, first: &[Row], second: &[Row]) -> Result<Vec<Row>, 
     Ok(list)
 }
 
-/// Each row with so many columns more.
+/// Each row with `more` further columns.
 pub fn all_padded(alloc: Global, rows: &[Row], more: u32) -> Result<Vec<Row>, AllocError>
     requires bounded { All (λ r. columns r + more < 2 ^ 32 - 1) rows.now }
     ensures exact { IfOk result (λ v. v.items ≡ map (padded_row more) rows.now) }

@@ -4,7 +4,7 @@ ghost use Rattle.tv_linear.specs.Depth.{splits};
 use crate::row::Row;
 use std::marker::Model;
 
-/// A proof that each whole point of a place is in some target.
+/// A proof that each integer point of a place is in some target.
 #[derive(Drop)]
 pub enum CoverTree {
     /// A proof where the row is met, and one where it is not.

@@ -1,4 +1,4 @@
-//! Arithmetic on whole numbers below 2^127 in magnitude: one number less than `i128` has.
+//! Arithmetic on integers below 2^127 in magnitude: one number less than `i128` has.
 
 ghost use Rattle.std.specs.Prelude.{◌+ℤ◌, ◌-ℤ◌, ◌*ℤ◌, neg_ℤ, SomeIff};
 ghost use Rattle.tv_linear.specs.Fits.{IsHeld};

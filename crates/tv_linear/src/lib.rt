@@ -1,6 +1,6 @@
-//! Rows of whole numbers, regions made of them, and the proof trees of certificates over them.
+//! Rows of integers, regions made of them, and the proof trees of certificates over them.
 //!
-//! A row is whole coefficients and a constant. As a term it has a value at a list of numbers, one for each
+//! A row is integer coefficients and a constant. As a term it has a value at a list of numbers, one for each
 //! column. As a condition it is met where that value is at most 0.
 #![tactic(auto)]
 

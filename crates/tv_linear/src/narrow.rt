@@ -74,7 +74,7 @@ pub fn difference(left: i128, right: i128, more: i128) -> i128
     left - right + more
 }
 
-/// A number that is as small as a sum of so many narrow ones, and one more.
+/// A number that is as small as a sum of `parts` narrow ones, and one more.
 pub fn one_more(parts: u64, total: i128, number: i128) -> i128
     requires total { unsigned_abs total ≤ parts * 2 ^ 62 }
     requires bounded { parts < 2 ^ 64 - 1 }

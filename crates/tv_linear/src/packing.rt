@@ -25,7 +25,7 @@ fn append_row(numbers: &mut Vec<i64>, row: &Row) -> Result<(), AllocError>
     Ok(())
 }
 
-/// Whether the rows have so many columns.
+/// Whether each row has `count` columns.
 pub fn have_columns(rows: &[Row], count: u32) -> bool
     ensures { IsTrue result ↔ All (λ r. columns r ≡ count) rows.now }
 {

@@ -14,7 +14,7 @@ pub struct Piece {
     pub poly: Poly,
 }
 
-/// The states of some pieces, over so many variables and locations.
+/// The states of some pieces, over `variables` variables and `locations` locations.
 #[derive(Drop)]
 pub struct Region {
     pub variables: u32,

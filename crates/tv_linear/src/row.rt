@@ -122,7 +122,7 @@ impl Row {
         })
     }
 
-    /// The row with so many columns more, in each of which it has 0.
+    /// The row with `more` further columns. It has 0 in each of them.
     pub fn padded(&self, alloc: Global, more: u32) -> Result<Row, AllocError>
         requires { columns self.now + more < 2 ^ 32 - 1 }
         ensures { IfOk result (λ row. row ≡ padded_row more self.now) }
@@ -177,7 +177,7 @@ impl Row {
         i128::from(self.constant)
     }
 
-    /// The number at a column, of which the constant's is the last.
+    /// The number at a column. The constant's column is the last.
     pub(crate) fn entry(&self, column: usize) -> i128
         ensures is { result ≡ entry self.now column }
         ensures narrow { IsWithin 62 result }
@@ -225,7 +225,7 @@ impl Row {
         }
     }
 
-    /// The row that whole points meet exactly where they do not meet this one: `1 - r`.
+    /// The row that integer points meet exactly where they do not meet this one: `1 - r`.
     pub fn deny(&self, alloc: Global) -> Result<Row, RowFault>
         ensures exact { GivesRow (denial self.now) result }
         ensures denied { IfOk result (λ row. (xs : List ℤ) → IsMet xs row ↔ (¬ IsMet xs self.now)) }
@@ -272,7 +272,7 @@ impl Row {
     }
 
     /// Divides by the greatest common divisor of the coefficients and rounds the constant up. The same
-    /// whole points meet both rows. A row without a coefficient other than 0 stays.
+    /// integer points meet both rows. A row without a coefficient other than 0 stays.
     pub fn tighten(&self, alloc: Global) -> Result<Row, AllocError>
         ensures exact { IfOk result (λ row. row ≡ tight self.now) }
         ensures divided { IfOk result (λ row. IsTightened self.now row) }

@@ -33,7 +33,7 @@ fn greatest_common_divisor(left: u64, right: u64) -> u64
     x
 }
 
-/// The least whole number at or above `number / divisor`.
+/// The least integer at or above `number / divisor`.
 pub fn rounded_up(divisor: u64, number: i64) -> i64
     requires narrow { IsWithin 62 number }
     requires positive { 1 ≤ divisor }

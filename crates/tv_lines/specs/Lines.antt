@@ -38,7 +38,7 @@ line_with head zs = if list_all is_narrow zs then formed head zs else wide
 abbrev pub numbered : Head → List (List ℕ) → PlainLine
 numbered head words = if list_all is_number words then line_with head (map number_of words) else formless
 
--- a head and so many words after it, each to be a number
+-- a head and `count` words after it, each to be a number
 abbrev pub counted : Head → ℕ → List (List ℕ) → PlainLine
 counted head count words = if length words == count then numbered head words else formless
 

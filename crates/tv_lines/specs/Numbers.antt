@@ -6,7 +6,7 @@ use Rattle.std.specs.Str.{bytes_eq}
 use Rattle.tv_lines.specs.declared.number.NumberWord.{NumberWord}
 use Rattle.tv_lines.specs.declared.number.NumberWord.TheVariants as words
 
--- one digit, or several of which the first isn't 0
+-- one digit, or several where the first isn't 0
 abbrev pub is_numeral : List ℕ → Bool
 is_numeral ds = nat_lt 0 (length ds) && list_all is_ascii_digit ds && (length ds == 1 || not (slice_index ds 0 == 48))
 

@@ -41,7 +41,7 @@ fn numbered(alloc: Global, head: Head, behind: &[u8]) -> Result<Line, AllocError
     Ok(Line::Formed(head, numbers))
 }
 
-/// A head and so many words after it, each to be a number.
+/// A head and `count` words after it, each to be a number.
 fn counted(alloc: Global, head: Head, count: usize, behind: &[u8]) -> Result<Line, AllocError>
     ensures { IfOk result (λ line. plain line ≡ counted head count (behind_piece 32 behind.now)) }
 {

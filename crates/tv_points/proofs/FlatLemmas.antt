@@ -17,7 +17,7 @@ use Rattle.std.proofs.lemmas.List.{map-append}
 use Rattle.tv_cases.proofs.FormLemmas.{times_zero}
 use Rattle.tv_linear.proofs.ListLaws.{map-table}
 
--- ---- sums of which all products but one are 0
+-- ---- sums where all products but one are 0
 abbrev Nulls : (ℕ → ℤ) → ℕ → List ℤ → Type 0
 Nulls f v [] = Unit {0}
 Nulls f v (x ∷ xs) = (f v *ℤ x ≡ pos 0) × Nulls f (suc v) xs

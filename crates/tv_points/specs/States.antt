@@ -10,7 +10,7 @@ use Rattle.tv_points.specs.declared.step.Step.{Step}
 abbrev pub seen : State → programs.State
 seen s = record { location = s.location; values = s.values.items }
 
--- so many values, below 2^62 in magnitude
+-- the state has n values, below 2^62 in magnitude
 pub record IsPointOf (n : ℕ) (s : State) : Type 0 where
   pub many : length s.values.items ≡ n
   pub narrow : All (IsWithin 62) s.values.items
@@ -56,7 +56,7 @@ pub record ComesBack (about : CaseSystem) (states : List State) (steps : List St
   pub as_many : length steps ≡ length states
   pub leads : AreSteps about states 0 steps
 
--- a run through the states, of which the last is at the location
+-- A run through the states. The last of them is at the location.
 pub record ComesTo (about : CaseSystem) (location : ℕ) (states : List State) (steps : List Step) : Type 0 where
   pub states_are : AreStates about states
   pub as_many : length states ≡ length steps + 1

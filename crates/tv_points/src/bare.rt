@@ -68,7 +68,7 @@ fn push_whole(
     }
 }
 
-/// The node of these pieces, none of which has rows.
+/// The node of these pieces, which have no rows.
 pub fn whole_node(alloc: Global, pieces: Vec<Marked>) -> Result<Node, AllocError>
     ensures { IfOk result (λ node. IsWholeNode node pieces.items) }
 {

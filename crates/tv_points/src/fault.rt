@@ -3,7 +3,7 @@ use std::alloc::AllocError;
 /// Why a run has no certificate of single states.
 #[derive(Clone, Copy, Debug, PartialEq, Eq)]
 pub enum PointFault {
-    /// A product or a partial sum is 2^127 or more in magnitude at this column of a line, of which the constant's is the last.
+    /// A product or a partial sum is 2^127 or more in magnitude at this column of a line. The last column is the constant's.
     Wide { column: u32 },
     /// There is no memory.
     Memory,

@@ -12,7 +12,7 @@ use std::alloc::{AllocError, Global};
 use tv_cert::{Mark, Marked};
 use tv_linear::{Row, push_item};
 
-/// The ranks of a state with so many steps left.
+/// The ranks of a state with `left` steps left.
 fn ranks_of(alloc: Global, columns: u32, ends: bool, left: u32) -> Result<Vec<Row>, AllocError>
     requires bounded { columns < 2 ^ 32 - 1 }
     ensures { IfOk result (λ ranks. ranks.items ≡ rank_rows columns ends left) }
@@ -25,7 +25,7 @@ fn ranks_of(alloc: Global, columns: u32, ends: bool, left: u32) -> Result<Vec<Ro
     Ok(ranks)
 }
 
-/// What the piece of a state with so many steps left is for.
+/// What the piece of a state with `left` steps left is for.
 fn mark(ends: bool, left: u32) -> Mark
     ensures { result ≡ mark_of ends left }
 {
@@ -36,7 +36,7 @@ fn mark(ends: bool, left: u32) -> Mark
     }
 }
 
-/// The piece of a state from which so many steps are left.
+/// The piece of a state from which `left` steps are left.
 fn piece_of(
     alloc: Global,
     columns: u32,

@@ -1,4 +1,4 @@
--- Fixed points by their rounds.
+-- Fixpoints by their rounds.
 use Rattle.std.proofs.Common.{Vec, ◌≡◌, ◌⊎◌, inl, inr, ℕ, suc, ◌+◌, ◌<◌, ◌≤◌, List, [], ◌∷◌, ◌++◌, length, sym, ap, ◌∙◌, subst, arith, true, false, append-nil}
 use Rattle.std.specs.Prelude.{All}
 use Rattle.std.proofs.lemmas.List.Elements.{Contains-append_left, Contains-append_right}
@@ -126,7 +126,7 @@ along_more about k n given wider sides children part l b a = record {
   built = λ s h m. built_to about s (k + (0 + h)) (n + h) part.region (omega (arith, l)) (a.built s (0 + h) (b s h m));
 }
 
--- what is made of the end and the arguments is made of the arguments, of which the end is made
+-- what is made of the end and the arguments is made of the arguments alone, where the end is made of them
 end_and_given : (about : CaseSystem) (end : Region) (given : List Region) → IsBuiltOf about 0 given end → (s : Statement) (h : ℕ) → AreBuilt about s h given → AreBuilt about s (0 + h) (end ∷ given)
 end_and_given about end given e s h m = more_built about s (0 + h) end given (e s h m) (all_built_to about s h (0 + h) given (omega arith) m)
 
@@ -177,7 +177,7 @@ over_sides about sides end point of f e = record {
   end = subst (IsRegion about.variables about.locations) (sym of.ends) e.over;
 }
 
--- the sides of a fixed point are built as its arguments are
+-- the sides of a fixpoint are built as its arguments are
 pub hold_side_built : (about : CaseSystem) (sides : Sides) (end : Region) (point : FixedPoint) → IsOfSides sides end point → (s : Statement) (h : ℕ) → AreBuilt about s h (end ∷ arguments sides) → IsBuilt about s h point.hold.now
 hold_side_built about sides end point of s h m = subst (IsBuilt about s h) (sym of.hold) (hold_built about s h sides.shape sides.first.now sides.second.now (rest_built about s h end (arguments sides) m))
 

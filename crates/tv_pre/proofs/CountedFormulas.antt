@@ -1,4 +1,4 @@
--- How many pieces the refusals of a formula tell of.
+-- How many pieces the refusals of a formula report.
 use Rattle.std.proofs.Common.{◌≡◌, ℕ, zero, suc, ◌+◌, ◌<◌, ◌≤◌, List, [], ◌∷◌, length, get_or, sym, subst, arith}
 use Rattle.std.specs.Prelude.{max, sum}
 use Rattle.std.proofs.Math.Nat.{le-max_left, le-max_right, max-le, le_refl}

@@ -1,4 +1,4 @@
--- How many pieces refused calls on regions tell of.
+-- How many pieces refused calls on regions report.
 use Rattle.std.proofs.Common.{◌≡◌, ℕ, zero, suc, ◌+◌, ◌*◌, ◌<◌, ◌≤◌, List, [], ◌∷◌, length, get_or, take, refl, sym, ap, ◌∙◌, subst, arith, Bool, true, false}
 use Rattle.std.specs.Prelude.{All, max, sum}
 use Rattle.tv_cases.proofs.AmountLemmas.{sum-cons}
@@ -169,7 +169,7 @@ module _ (about : CaseSystem) (sides : Sides) where
       (both_counted hold goes budget bound
       (λ l. mul-le (count_at l hold) (count_at l goes) (hold_count sides.shape f g l) (some_count about.cases (λ k. 1) l) (side_few sides f g full.counts hold e l) (bounded plain (λ k. 1) (everywhere_few about all a) l)) fault h)
 
-  -- ---- the fixed point
+  -- ---- the fixpoint
   pub cover_along : (fault : CoverFault) (r : PreFault) → IsOfCover fault r → IsCountedAlong about sides r
   cover_along fault r is plain last o f g full = cover_within (fix_count about.cases last sides.path sides.shape f g) fault r is
 

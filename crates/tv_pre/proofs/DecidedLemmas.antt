@@ -1,4 +1,4 @@
--- Where the rounds tell of the start, no gap is told.
+-- Where the rounds tell of the start, no gap is reported.
 use Rattle.std.proofs.Common.{◌≡◌, inl, inr, ℕ, ◌<◌, refl, sym, subst, Option}
 use Rattle.tv_formula.specs.Formulas.{property_of}
 use Rattle.tv_formula.specs.Properties.{Property}
@@ -32,7 +32,7 @@ module _ (about : CaseSystem) (claim : Claim) (same : claim_variables claim ≡ 
       out_of_targets about.start left.found.part.region (lists_at about.start left.found.part.region.pieces.items) refl left.values left.outside.outside
       (set.all s (record { location = starts; values = wide }) (known s (record { place = refl; counted = wide })))
 
-  -- a state at the start of which the rounds tell is in the region, which has none there
+  -- a state at the start that the rounds tell of is in the region, which has none there
   no_disproof_left : IsTameStatement about (aim_states claim.denied_aim) → HasRows about.variables (property_of claim.denied) → (s : State) → IsInitialAt about s → Known about last (property_of claim.denied) s → (gap : Option Gap) → IsDisproofLeft about (aim_states claim.denied_aim) gap → ⊥
   no_disproof_left tame rows s initial known gap left =
       let set = left.is.known last is tame (property_of claim.denied) (states_of about (claim_variables claim) (aim_states claim.denied_aim) (property_of claim.denied) claim.denied_stated same) rows in

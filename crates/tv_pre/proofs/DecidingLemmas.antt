@@ -50,7 +50,7 @@ pub fault_of : (about : CaseSystem) (t s : Statement) (budget : Budget) (fault :
 fault_of about t s budget fault e h = subst (λ u. (last : ℕ) → IsLastRound about 8 last → IsPreFault about u budget (steps_back last u) fault) e h
 
 -- ---- where the start tells nothing of either side
--- no point of the start lies in lists none of which has one
+-- no point of the start lies in the lists, if none of them has one
 pub out_of_none : (about : CaseSystem) (region : Region) (xs : List ℤ) → HasNoStart about region.pieces.items → length xs ≡ about.variables → InState region (state about.start xs) → ⊥
 out_of_none about region xs none wide m =
     let w = some_passes (met.all_met xs) (lists_at about.start region.pieces.items) (state_in about.start xs region m) in

@@ -21,7 +21,7 @@ use Rattle.tv_rounds.proofs.SetLemmas.{in_or_out}
 abbrev pub AreDifferences : List Linear → Type 0
 AreDifferences rows = (r : Linear) → Has rows r → IsDifference r
 
--- each of the rows has so many columns
+-- each of the rows has n columns
 abbrev AreOver : ℕ → List Linear → Type 0
 AreOver n rows = (r : Linear) → Has rows r → columns r ≡ n
 
@@ -305,7 +305,7 @@ fitted_numbers zero cs = []
 fitted_numbers (suc n) [] = pos 0 ∷ fitted_numbers n []
 fitted_numbers (suc n) (c ∷ cs) = c ∷ fitted_numbers n cs
 
--- the row with so many columns
+-- the row with n columns
 abbrev fitted : ℕ → Linear → Linear
 fitted n r = linear (fitted_numbers n r.coefficients) r.constant
 
@@ -348,7 +348,7 @@ fitted_met n xs e (r ∷ rows) = (λ i. same i && fitted_met n xs e rows i) wher
   same = ap (λ z. int_le (z +ℤ r.constant) (pos 0)) (subst (λ k. dot (fitted_numbers k r.coefficients) xs ≡ dot r.coefficients xs) e (dot-fitted r.coefficients xs))
 
 -- ---- whether some numbers serve
--- so many numbers after the point meet the rows
+-- k numbers after the point meet the rows
 pub record MeetsBehind (k : ℕ) (rows : List Linear) (xs : List ℤ) : Type 0 where
   pub draws : List ℤ
   pub drawn : length draws ≡ k

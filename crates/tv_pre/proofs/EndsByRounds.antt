@@ -49,7 +49,7 @@ use Rattle.tv_pre.proofs.TerminationMeaning.{untrue, term_full, term_open, never
 use Rattle.tv_pre.proofs.TerminationSides.{back_built}
 use Rattle.tv_pre.proofs.TerminationRounds.{stops_first, ends_asked, rounds_refused, term_counted, counted_sides, fully_counted, sides_made, behind_stops, layers_made, joined_made, joined_few}
 
--- the fixed point of these sides is the until over every run
+-- the fixpoint of these sides is the until over every run
 module _ (about : CaseSystem) (cases : All (IsCase about.variables about.locations) about.cases) (last : ℕ) (search : IsLastRound about 8 last) (sides : Sides) (path : sides.path ≡ Every) (shape : sides.shape ≡ Until) (h : AreSidesOf about Every anything stopping sides.first.now sides.second.now) where
   -- something of the path and the shape is so of the until
   as_until : (P : Path → Shape → Type 0) → P sides.path sides.shape → P Every Until

@@ -107,7 +107,7 @@ module _ (about : CaseSystem) where
           differs.0 (elim differs.1 [ inl o ↦ o.state | inr o ↦ o.state ])
           (elim differs.1 [ inl o ↦ inl (o.inside, o.outside) | inr o ↦ inr (o.inside, o.outside) ]) settled
 
-    -- the rounds of a fixed point of these sides differ where those of the regions of the arguments do
+    -- the rounds of a fixpoint of these sides differ where those of the regions of the arguments do
     module _ (sides : Sides) (end : Region) (point : FixedPoint) (of : IsOfSides sides end point) (ends : AreAtEnd about sides end) where
       pub way_same : (s : State) → IsStateOf about s → InState point.hold.now s ↔ HoldSide sides.shape (InState sides.first.now) (InState sides.second.now) s
       way_same s is = (

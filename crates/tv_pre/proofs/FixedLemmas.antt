@@ -1,4 +1,4 @@
--- The nodes of fixed points.
+-- The nodes of fixpoints.
 use Rattle.std.proofs.Common.{◌≡◌, ℕ, List, [], ◌∷◌, ◌++◌, map, Bool, true, false, refl, sym, ◌∙◌, subst}
 use Rattle.std.specs.List.{flat_map}
 use Rattle.tv_formula.specs.declared.tree.Path.{Path}

@@ -124,7 +124,7 @@ module _ (about : CaseSystem) (last : ℕ) where
       let rest : statements_of ss ≡ stated_all (comparison_lists about.variables) fs = cc in
       (h.0 f first w.0, argument_full ss rs h.1 fs rest w.1)
 
-  -- so many pieces of the arguments at a location, where no case has a draw
+  -- how many pieces the arguments have at a location, where no case has a draw
   module _ (plain : HasNoDraws about) (m : ℕ) (is : IsLastRound about 9 m) (l : ℕ) where
     argument_product : (ss : List Statement) (rs : List Region) (ns : List Node) → AreEachArgument about last ss rs ns → (fs : Properties) → statements_of ss ≡ stated_all (comparison_lists about.variables) fs → product (counts_at l rs) ≤ product_count about.cases m fs l
     argument_product [] [] [] h none e = omega arith
@@ -267,7 +267,7 @@ module _ (about : CaseSystem) (last : ℕ) where
         (cover_fault about budget t (suc k) (AsksOf (λ q. AsksNext about path q child.part.region.pieces.items) region.pieces.items)
         (λ a w. next_asked about t k path region.pieces.items child.part.region.pieces.items w.0 a own w.1 into w.2) fault r is f)
 
-  -- ---- fixed points
+  -- ---- fixpoints
   module _ (path : Path) (shape : Shape) (s t : Statement) (first second : Found) (h : IsFound about last s first) (g : IsFound about last t second) where
     pub sides_built : AreBuilt about (along path shape s t) (steps_back last s + steps_back last t) (first.part.region ∷ second.part.region ∷ [])
     sides_built =

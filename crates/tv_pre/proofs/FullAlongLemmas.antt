@@ -1,4 +1,4 @@
--- Fixed points whose regions lack only states where they fail.
+-- Fixpoints whose regions lack only states where they fail.
 use Rattle.std.proofs.Common.{◌≡◌, ◌⊎◌, inl, inr, ℕ, suc, ◌+◌, List, [], ◌∷◌, length, sym, subst, arith, Bool, true, false, not}
 use Rattle.std.specs.Prelude.{All, Contains}
 use Rattle.tv_formula.specs.declared.tree.Path.{Path}
@@ -33,7 +33,7 @@ use Rattle.tv_pre.proofs.SetLemmas.{in_joined}
 use Rattle.tv_pre.proofs.AlongLemmas.{settled_inside}
 use Rattle.tv_pre.proofs.SideLemmas.{hold_in}
 
--- ---- fixed points of wider sides
+-- ---- fixpoints of wider sides
 -- where the way is in the new way or at the new end, and the end is in the new end, of the states of the program
 module _ (about : CaseSystem) (cases : All (IsCase about.variables about.locations) about.cases) (h e k n : State → Type 0) (a : (s : State) → IsStateOf about s → h s → k s ⊎ n s) (b : (s : State) → IsStateOf about s → e s → n s) where
   until_wider : (s : State) → IsStateOf about s → (ts : List State) → IsRun (CaseSteps about) s ts → e (last_of s ts) → BeforeLast h s ts → UntilAny (CaseSteps about) k n s
@@ -71,7 +71,7 @@ module _ (about : CaseSystem) (cases : All (IsCase about.variables about.locatio
   holds_wider false Every s p x = λ ts run. weak_wider s p ts run (x ts run)
   holds_wider false Any s p x = λ m. x (fails_back s p m)
 
--- ---- the negation of a fixed point
+-- ---- the negation of a fixpoint
 with_until : {S : Type 0} (step : S → S → Type 0) (path : Path) (f g : S → Type 0) (s : S) → HoldsBy true step path f g s → FixHolds step path Until f g s
 with_until step path f g s x = x
 
@@ -122,7 +122,7 @@ module _ (about : CaseSystem) (sides : Sides) (end : Region) (point : FixedPoint
     | inr x ↦ in_joined (end ∷ layers) x.0 s (Contains-later end x.0 layers x.1) x.2
   ]
 
--- ---- parts of fixed points
+-- ---- parts of fixpoints
 module _ (about : CaseSystem) (cases : All (IsCase about.variables about.locations) about.cases) (sides : Sides) (end : Region) (point : FixedPoint) (of : IsOfSides sides end point) (over : AreOver about sides) (ends : AreAtEnd about sides end) where
   fails_is : (f g : Property) → IsFull about f sides.first.now → IsFull about g sides.second.now → (s : State) → IsStateOf about s → FailsAt (must_end sides.shape) about point s → Holds (CaseSteps about) (negation (fix sides.path sides.shape f g)) s
   fails_is f g first second s p x =
@@ -132,7 +132,7 @@ module _ (about : CaseSystem) (cases : All (IsCase about.variables about.locatio
       (λ t q m. subst (λ r. InState r t) (sym of.ends) (ends.all tt t q m))
       s p (subst (λ (z : Path). HoldsBy (not (must_end sides.shape)) (CaseSteps about) (other_path z) (λ t. ¬ (InState point.end.now t)) (λ t. ¬ (InState point.hold.now t) × ¬ (InState point.end.now t)) s) of.path x)
 
-  -- the part has the states of a region out of which the fixed point fails
+  -- the part has the states of a region, and outside of that region the fixpoint fails
   pub along_full : (round region : Region) → rounds.IsFull (must_end sides.shape) about point round → ((s : State) → IsStateOf about s → InState round s → InState region s) → IsFullAlong about sides region
   along_full round region full inside f g first second s p n = fails_is f g first second s p (full s p (λ m. n (inside s p m)))
 

@@ -1,4 +1,4 @@
--- What gaps say of formulas on the next states and of fixed points.
+-- What gaps say of formulas on the next states and of fixpoints.
 use Rattle.std.proofs.Common.{◌≡◌, inl, inr, ℕ, suc, ◌+◌, [], ◌∷◌, ◌++◌, length, refl, sym, ap, ◌∙◌, subst, arith, slice_get, Bool, true, false, not}
 use Rattle.std.specs.Prelude.{All, Option, None, Some, IfSome, is_some}
 use Rattle.tv_formula.specs.declared.tree.Path.{Path}
@@ -35,7 +35,7 @@ module _ (about : CaseSystem) (last : ℕ) where
   step_gap path s k into b (Some Inexact) h = record { wild = λ tame. h.1 (tame_built about s (tame_less about s (after path s) (λ a x. x) tame) k k into into b b); moves = λ l. l }
   step_gap path s k into b (Some (Open place)) h = absurd (let e = h.0 in cc)
 
-  -- ---- fixed points
+  -- ---- fixpoints
   module _ (cases : All (IsCase about.variables about.locations) about.cases) (path : Path) (shape : Shape) (s t : Statement) (first second : Found) (h : IsFound about last s first) (g : IsFound about last t second) where
     abbrev round : ℕ → State → Type 0
     round k = FixRound about path shape (InState first.part.region) (InState second.part.region) k
@@ -67,7 +67,7 @@ module _ (about : CaseSystem) (last : ℕ) where
     unserved_of Every f k one two u = λ must. unserved_same about shape f k first.part.region second.part.region one two (u refl must)
     unserved_of Any f k one two u = tt
 
-    -- the gap of the fixed point itself, where its arguments have none
+    -- the gap of the fixpoint itself, where its arguments have none
     own_gap : (own gap : Option Gap) → own ≡ gap → first.gap ≡ None → second.gap ≡ None →
         (own ≡ Some Inexact → (u : Statement) (k : ℕ) → AreBuilt about u k (first.part.region ∷ second.part.region ∷ []) → IsTameStatement about u → ⊥) →
         ((place : ℕ) → own ≡ Some (Open place) → (place ≡ 0) × Differ about (round last) (round (suc last))) →

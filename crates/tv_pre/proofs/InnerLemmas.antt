@@ -1,4 +1,4 @@
--- What is found of the arguments of a fixed point in a search of their own is found in that of the whole formula.
+-- What is found of the arguments of a fixpoint in a search of their own is found in that of the whole formula.
 use Rattle.std.proofs.Common.{◌≡◌, sym, subst, Bool}
 use Rattle.tv_cases.specs.LinearCases.{CaseSystem}
 use Rattle.tv_cases.specs.Systems.{cases_of}

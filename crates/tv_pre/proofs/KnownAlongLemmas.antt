@@ -1,4 +1,4 @@
--- Regions of fixed points that have the states that rounds tell of.
+-- Regions of fixpoints that have the states that rounds tell of.
 use Rattle.std.proofs.Common.{◌≡◌, inl, inr, ℕ, suc, ◌+◌, List, [], ◌∷◌, length, refl, sym, ◌∙◌, subst, arith, Bool, true, false, not}
 use Rattle.std.specs.Prelude.{All, Contains, ◌↔◌, Option, None, Some, IfSome, is_some}
 use Rattle.tv_formula.specs.declared.tree.Path.{Path}
@@ -57,7 +57,7 @@ module _ (about : CaseSystem) (cases : All (IsCase about.variables about.locatio
   abbrev IsSettledAlong : ℕ → Type 0
   IsSettledAlong k = IsFixSettled about sides.path sides.shape First Second k
 
-  -- the rounds of the fixed point are those of the regions of its arguments
+  -- the rounds of the fixpoint are those of the regions of its arguments
   round_along : (grows : Bool) → must_end sides.shape ≡ grows → (k : ℕ) (s : State) → IsStateOf about s → RoundOf grows about point k s ↔ RoundAlong k s
   round_along grows e k s is = (
     λ r. to_sides about cases sides end point of ends k s is (subst (λ b. RoundOf b about point k s) (sym e) r),
@@ -76,7 +76,7 @@ module _ (about : CaseSystem) (cases : All (IsCase about.variables about.locatio
     λ r. (round_along grows e k s is).1 ((settled s is).1 ((round_along grows e (suc k) s is).0 r)),
   )
 
-  -- the fixed point holds where that of the regions does
+  -- the fixpoint holds where that of the regions does
   holds_point : (s : State) → IsStateOf about s → holds_along about sides s → HoldsAt (must_end sides.shape) about point s
   holds_point s is h =
       subst (λ (q : Path). HoldsBy (must_end sides.shape) (CaseSteps about) q (InState point.hold.now) (InState point.end.now) s) (sym of.path)
@@ -188,7 +188,7 @@ module _ (about : CaseSystem) (cases : All (IsCase about.variables about.locatio
           λ r. subst (λ qs. InPieces qs s) (sym joined.pieces) (shrunk_in at round onward told.round tame o told.settled s is r),
         ))
 
-    -- a settled round has each state where the fixed point holds
+    -- a settled round has each state where the fixpoint holds
     pub shrunk_holding : (k : ℕ) (round onward region : Region) → IsRound false about point k round → AreTame about point → AreOnward about sides round onward → IsSettledBy false about point k →
         IsSetOf about (HoldsAt (must_end sides.shape) about point) round → IsJoined about (end ∷ onward ∷ []) region → (s : State) → IsStateOf about s → holds_along about sides s → InState region s
     shrunk_holding k round onward region r tame o settled exact joined s is h =
@@ -224,7 +224,7 @@ module _ (about : CaseSystem) (sides : Sides) (path : sides.path ≡ Every) wher
       let r = subst (λ (p : Path). IsRankedOn about p sides.shape (InState sides.first.now) (InState sides.second.now)) path ranked in
       elim (r.goes w.state w.is) [ inl e ↦ w.not_end e | inr g ↦ w.not_way g.0 g.1 ]
 
--- over some run no fixed point is ranked
+-- over some run no fixpoint is ranked
 pub any_none : (about : CaseSystem) (sides : Sides) → (sides.path ≡ Every → must_end sides.shape ≡ true → ⊥) → IsNotRanked about sides
 any_none about sides other must ranked = by_path sides.path refl ranked where
   by_path : (p : Path) → sides.path ≡ p → IsRankedOn about p sides.shape (InState sides.first.now) (InState sides.second.now) → ⊥
@@ -236,7 +236,7 @@ pub tame_cases : (about : CaseSystem) (s : Statement) → IsTameStatement about 
 tame_cases about s (inl plain) = inl plain
 tame_cases about s (inr d) = inr d.0
 
--- so it is for the sides of a fixed point
+-- so it is for the sides of a fixpoint
 pub sides_tame : (about : CaseSystem) (sides : Sides) (end hold : Region) → hold ≡ hold_side sides.shape sides.first.now sides.second.now → IsBuiltOf about 0 (arguments sides) end →
     (s : Statement) (h : ℕ) → AreBuilt about s h (arguments sides) → IsTameStatement about s → IsTameFor about hold end
 sides_tame about sides end hold e b s h m tame =

@@ -195,7 +195,7 @@ module _ (about : CaseSystem) (last : ℕ) where
             only = λ so t p m. leads_next (InState into) known (λ u q x. set.only so u q x) path t p (before.right t p m);
           })
 
-      -- ---- fixed points
+      -- ---- fixpoints
       -- where the sides have more states, as many where it need not come to its end, the rounds tell of more
       fix_wider : (P Q R S : State → Type 0) → ((s : State) → IsStateOf about s → P s → R s) → ((s : State) → IsStateOf about s → Q s → S s) → (path : Path) (shape : Shape) →
           (must_end shape ≡ false → ((s : State) → IsStateOf about s → R s → P s) × ((s : State) → IsStateOf about s → S s → Q s)) → (s : State) → IsStateOf about s → FixKnown about last path shape P Q s → FixKnown about last path shape R S s
@@ -226,8 +226,8 @@ module _ (about : CaseSystem) (last : ℕ) where
                 (λ must. ((λ v q x. a.all v q x), (λ v q x. b.all v q x))) u p (set.only so u p m);
           })
 
-      -- It need not come to its end, and the region has each state where that of the regions holds. So it has the known ones, whatever others the
-      -- regions have too.
+      -- It need not come to its end, and the region has each state where that of the regions holds. So it has the known ones, whatever
+      -- others the regions have too.
       pub weak_known : (path : Path) (shape : Shape) (s t : Statement) (first second region : Region) → must_end shape ≡ false → IsKnownFor about last alone s first → IsKnownFor about last alone t second →
           ((u : State) → IsStateOf about u → SidesHold about path shape (HoldSide shape (InState first) (InState second)) (EndSides shape (InState first) (InState second)) u → InState region u) →
           IsKnownFor about last false (along path shape s t) region

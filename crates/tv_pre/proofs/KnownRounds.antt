@@ -73,8 +73,8 @@ module _ (about : CaseSystem) (cases : All (IsCase about.variables about.locatio
       | inr l ↦ (same_to grows n k l two s is).1 r
     ]
 
-  -- ---- ranked fixed points
-  -- a ranked fixed point comes to its end from each state
+  -- ---- ranked fixpoints
+  -- a ranked fixpoint comes to its end from each state
   ranked_holds : (shape : Shape) → must_end shape ≡ true → (f g : State → Type 0) → IsRanked about shape f g → (s : State) → IsStateOf about s → HoldsBy true (CaseSteps about) Every (HoldSide shape f g) (EndSides shape f g) s
   ranked_holds Until must f g r s is = fix_known about cases 0 f g f g (λ t i k. k) (λ t i k. k) Every Until s is (inr r)
   ranked_holds Strong must f g r s is = fix_known about cases 0 f g f g (λ t i k. k) (λ t i k. k) Every Strong s is (inr r)
@@ -109,7 +109,7 @@ module _ (about : CaseSystem) (cases : All (IsCase about.variables about.locatio
   ranked_on_wider Any shape A B P Q a b r = r
 
   module _ (last : ℕ) (path : Path) (A B P Q : State → Type 0) where
-    -- where a round that shrinks is settled, the fixed point of wider sets holds
+    -- where a round that shrinks is settled, the fixpoint of wider sets holds
     pub weak_holds : (shape : Shape) → must_end shape ≡ false → ((s : State) → IsStateOf about s → A s → P s) → ((s : State) → IsStateOf about s → B s → Q s) → (s : State) → IsStateOf about s → FixKnown about last path shape A B s →
         SidesHold about path shape (HoldSide shape P Q) (EndSides shape P Q) s
     weak_holds shape may a b s is k =

@@ -55,7 +55,7 @@ use Rattle.tv_pre.proofs.TerminationMeaning.{never_full, term_open, never_open}
 use Rattle.tv_pre.proofs.TerminationSides.{back_built}
 use Rattle.tv_pre.proofs.TerminationRounds.{rounds_refused, never_counted, counted_sides, fully_counted, sides_made, round_few, round_leads}
 
--- the fixed point of these sides is the release over some run
+-- the fixpoint of these sides is the release over some run
 module _ (about : CaseSystem) (cases : All (IsCase about.variables about.locations) about.cases) (last : ℕ) (search : IsLastRound about 8 last) (sides : Sides) (path : sides.path ≡ Any) (shape : sides.shape ≡ Release) (n : IsNowhere about sides.first.now) (h : AreSidesOf about Any nothing going sides.first.now sides.second.now) where
   -- something of the path and the shape is so of the release
   as_release : (P : Path → Shape → Type 0) → P sides.path sides.shape → P Any Release

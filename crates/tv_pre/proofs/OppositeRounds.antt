@@ -1,4 +1,4 @@
--- Rounds of a fixed point and of its negation: each lacks what the other has.
+-- Rounds of a fixpoint and of its negation: each lacks what the other has.
 use Rattle.std.proofs.Common.{◌⊎◌, inl, inr, ℕ, zero, suc, Bool, true, false, not}
 use Rattle.std.specs.Prelude.{All, ◌↔◌}
 use Rattle.tv_formula.specs.declared.tree.Path.{Path}
@@ -31,7 +31,7 @@ module _ {S : Type 0} (step : S → S → Type 0) (path : Path) (hold end : S �
   grows_from zero s x = x
   grows_from (suc j) s x = inl (grows_from j s x)
 
--- of the sides of a fixed point over some run, and of one over every run: they exclude each other, and each state is in one of them
+-- of the sides of a fixpoint over some run, and of one over every run: they exclude each other, and each state is in one of them
 record AreOpposite (about : CaseSystem) (hold end other_hold other_end : State → Type 0) : Type 0 where
   on_way : (s : State) → IsStateOf about s → end s → other_hold s → ⊥
   at_end : (s : State) → IsStateOf about s → end s → other_end s → ⊥
@@ -141,7 +141,7 @@ module _ (about : CaseSystem) (P Q N M : State → Type 0) (first : (s : State) 
     ];
   }
 
--- where a round of a fixed point and its next one differ in a state, the round of the negation is not settled either
+-- where a round of a fixpoint and its next one differ in a state, the round of the negation is not settled either
 module _ (about : CaseSystem) (cases : All (IsCase about.variables about.locations) about.cases) (P Q N M : State → Type 0)
     (first : (s : State) → IsStateOf about s → P s → N s → ⊥) (second : (s : State) → IsStateOf about s → Q s → M s → ⊥)
     (told_first : (s : State) → IsStateOf about s → P s ⊎ N s) (told_second : (s : State) → IsStateOf about s → Q s ⊎ M s) (goes : Decides about (Goes about)) (m : ℕ) where

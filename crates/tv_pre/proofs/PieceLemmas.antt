@@ -29,7 +29,7 @@ pub zip_marked : (R : Marked → Piece → Type 0) (P : Piece → Type 0) (n : �
 zip_marked R P n mark ranks h [] all = tt
 zip_marked R P n mark ranks h (q ∷ qs) all = (h q (All-head P q qs all), zip_marked R P n mark ranks h qs (All-tail P q qs all))
 
--- so many ranks, where pieces go on
+-- m ranks, where pieces go on
 abbrev HasRanks : Mark → ℕ → List Linear → Type 0
 HasRanks Done m ranks = ranks ≡ []
 HasRanks Go m ranks = length ranks ≡ m

@@ -1,4 +1,4 @@
--- Fixed points that are to come to an end, where all states are ranked.
+-- Fixpoints that are to come to an end, where all states are ranked.
 use Rattle.std.proofs.Common.{◌≡◌, ◌⊎◌, inl, inr, ℕ, suc, ◌+◌, ◌≤◌, List, [], ◌∷◌, sym, subst, arith}
 use Rattle.std.specs.Prelude.{All}
 use Rattle.tv_formula.specs.declared.tree.Path.{Path}

@@ -1,4 +1,4 @@
--- Where no gap is told of a fixed point that is to come to its end on every run of a ranked program.
+-- Where no gap is reported of a fixpoint that is to come to its end on every run of a ranked program.
 use Rattle.std.proofs.Common.{◌≡◌, inl, inr, ℕ, ◌++◌, refl, sym, ap, ◌∙◌, subst, true}
 use Rattle.std.specs.Prelude.{All, Contains, Option, None, Some, IfSome}
 use Rattle.std.proofs.lemmas.List.Elements.{Contains-append_cases}

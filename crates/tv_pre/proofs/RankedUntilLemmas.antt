@@ -1,4 +1,4 @@
--- Nodes of fixed points with the ranks of another node.
+-- Nodes of fixpoints with the ranks of another node.
 use Rattle.std.proofs.Common.{◌≡◌, ℕ, ◌<◌, List, [], ◌∷◌, ◌++◌, map, length, All, Some, slice_get, Bool, true, false, cond, if◌then◌else◌, ◌==◌, refl, sym, ap, ◌∙◌, subst}
 use Rattle.std.specs.List.{AllZip}
 use Rattle.std.proofs.lemmas.List.Elements.{All-nil, All-cons, All-head, All-tail}
@@ -49,7 +49,7 @@ zip_ranked ranked R h (p ∷ ps) [] z e = absurd z
 zip_ranked ranked R h (p ∷ ps) (q ∷ qs) z e = (h p q z.0 e.0, zip_ranked ranked R h ps qs z.1 e.1)
 
 -- ---- their shape
--- the ranks are over the variables, and so many
+-- there are m ranks, over the variables
 pub record AreRanks (about : CaseSystem) (m : ℕ) (ranks : List Linear) : Type 0 where
   pub even : All (λ r. columns r ≡ about.variables) ranks
   pub many : length ranks ≡ m

@@ -37,7 +37,7 @@ use Rattle.tv_pre.proofs.SizedLemmas.{everywhere_few, first_whole, more_common, 
 use Rattle.tv_pre.proofs.SideLemmas.{hold_in}
 use Rattle.tv_rounds.proofs.MadeLemmas.{no_pieces}
 
--- the region has only states of the first so many regions, has the states that all regions have, and is made of them
+-- the region has only states of the first `count` regions, has the states that all regions have, and is made of them
 pub record IsCommon (about : CaseSystem) (regions : List Region) (count : ℕ) (common : Region) : Type 0 where
   pub over : IsRegion about.variables about.locations common
   pub inside : All (λ x. OfPieces about common.pieces.items (InState x)) (take count regions)
@@ -45,7 +45,7 @@ pub record IsCommon (about : CaseSystem) (regions : List Region) (count : ℕ) (
   pub built : IsBuiltOf about 0 regions common
   pub bounded : (l : ℕ) → count_at l common ≤ product (counts_at l (take count regions))
 
--- the region has only states of the regions together, and those of the first so many
+-- the region has only states of the regions together, and those of the first `count`
 pub record IsWhole (about : CaseSystem) (regions : List Region) (count : ℕ) (whole : Region) : Type 0 where
   pub over : IsRegion about.variables about.locations whole
   pub inside : OfPieces about whole.pieces.items (InPieces (joined_pieces regions))

@@ -26,7 +26,7 @@ module _ {S : Type 0} (step : S → S → Type 0) where
   stays_by Any P Q s w (inl h) = inl (h.0, h.1, w h.0 h.1 h.2)
   stays_by Any P Q s w (inr h) = inr h
 
-  -- ---- where no path of so many steps leaves a state
+  -- ---- where no path of k steps leaves a state
   goes_nowhere : (path : Path) (P : S → Type 0) (s : S) → ((t : S) → step s t → ⊥) → GoesInto step path P s → ⊥
   goes_nowhere Every P s n h = n h.0.0 h.0.1
   goes_nowhere Any P s n h = n h.0 h.1

@@ -10,7 +10,7 @@ use Rattle.tv_cases.specs.LinearCases.{LinearCase, CaseSystem, IsCase}
 use Rattle.tv_known.specs.Cycles.{no_case, case_at, Leads, here, along, HasCycle}
 use Rattle.std.proofs.lemmas.Bool.{or_cases}
 
--- no path of so many cases leaves the location
+-- no path of k cases leaves the location
 abbrev pub IsShort : List LinearCase → ℕ → ℕ → Type 0
 IsShort cases zero l = ⊥
 IsShort cases (suc k) l = (c : LinearCase) → Contains cases c → c.from ≡ l → IsShort cases k c.to

@@ -1,4 +1,4 @@
--- The sides of fixed points.
+-- The sides of fixpoints.
 use Rattle.std.proofs.Common.{◌≡◌, ℕ, List, [], ◌∷◌, true, false, refl}
 use Rattle.std.specs.Prelude.{Contains}
 use Rattle.tv_program.specs.Steps.{State}

@@ -1,4 +1,4 @@
--- Termination is a fixed point over every run, and its negation one over some run.
+-- Termination is a fixpoint over every run, and its negation one over some run.
 use Rattle.std.proofs.Common.{◌≡◌, inl, inr, ℕ, refl, true, false}
 use Rattle.std.specs.Prelude.{All}
 use Rattle.tv_formula.specs.declared.tree.Path.TheVariants.{Every, Any}

@@ -1,4 +1,4 @@
--- The sides of the fixed points that termination and its negation are.
+-- The sides of the fixpoints that termination and its negation are.
 use Rattle.std.proofs.Common.{inl, inr, ℕ, ◌+◌, ◌≤◌, [], ◌∷◌, refl, arith}
 use Rattle.std.specs.Prelude.{All}
 use Rattle.tv_formula.specs.declared.tree.Path.TheVariants.{Every, Any}

@@ -1,4 +1,4 @@
--- Where no gap is told.
+-- Where no gap is reported.
 use Rattle.std.proofs.Common.{◌≡◌, inl, inr, ℕ, List, refl, sym, ap, ◌∙◌, subst}
 use Rattle.std.specs.Prelude.{All, Option, None, Some, IfSome}
 use Rattle.tv_formula.specs.Formulas.{property_of}

@@ -1,4 +1,4 @@
--- What is told of the comparisons among subformulas.
+-- What is said of the comparisons among subformulas.
 use Rattle.std.proofs.Common.{◌≡◌, ℕ, zero, suc, ◌+◌, ◌<◌, List, [], ◌∷◌, ◌++◌, length, get_or, take, drop, map, Some, slice_get, refl, sym, ap, ◌∙◌, subst, arith, length-append}
 use Rattle.std.specs.Prelude.{Contains, ◌&&◌, true}
 use Rattle.std.proofs.lemmas.List.{take_more, map-append, append_assoc, append-nil}

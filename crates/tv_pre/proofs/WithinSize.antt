@@ -1,4 +1,4 @@
--- Refusals for too many pieces tell of no more than the size.
+-- Refusals for too many pieces report no more than the size.
 use Rattle.std.proofs.Common.{◌≡◌, inl, inr, ℕ, ◌<◌, ◌≤◌, refl, sym, ap, ◌∙◌, subst, arith, List, Bool, true, false}
 use Rattle.std.specs.Prelude.{max, nat_lt}
 use Rattle.std.proofs.Math.Nat.{le-max_left, le-max_right}

@@ -1,4 +1,4 @@
--- The regions of a fixed point, made of those of its arguments.
+-- The regions of a fixpoint, made of those of its arguments.
 use Rattle.std.specs.Prelude.{◌≡◌, ℕ, suc, List, [], ◌∷◌}
 use Rattle.tv_program.specs.Steps.{State}
 use Rattle.tv_formula.specs.declared.tree.Path.{Path}
@@ -59,14 +59,14 @@ AreOnward about sides into region = AreWithin about (IsTame about into) (λ s. O
 abbrev pub AreAtEnd : CaseSystem → Sides → Region → Type 0
 AreAtEnd about sides region = AreWithin about (Unit {0}) (AtEnd sides) region
 
--- the fixed point has the sides, and these states at its end
+-- the fixpoint has the sides, and these states at its end
 pub record IsOfSides (sides : Sides) (end : Region) (point : FixedPoint) : Type 0 where
   pub path : point.path ≡ sides.path
   pub shape : point.shape ≡ sides.shape
   pub hold : point.hold.now ≡ hold_side sides.shape sides.first.now sides.second.now
   pub ends : point.end.now ≡ end
 
--- the rounds are those of such a fixed point, for which going back is exact
+-- the rounds are those of such a fixpoint, for which going back is exact
 pub record AreRoundsOf (about : CaseSystem) (last : ℕ) (sides : Sides) (end : Region) (answer : Rounds) : Type 0 where
   pub point : FixedPoint
   pub of : IsOfSides sides end point
@@ -75,25 +75,25 @@ pub record AreRoundsOf (about : CaseSystem) (last : ℕ) (sides : Sides) (end : 
   pub exact : IsExactBy (must_end sides.shape) about point answer
   pub full : IsFullBy (must_end sides.shape) about point answer
 
--- The part is one of the fixed point of these arguments and nodes; its region is made of given ones, with so many more steps back.
+-- The part is one of the fixpoint of these arguments and nodes; its region is made of given ones, with k more steps back.
 pub record IsAlong (about : CaseSystem) (k : ℕ) (given : List Region) (sides : Sides) (children : List Node) (part : Part) : Type 0 where
   pub over : IsRegion about.variables about.locations part.region
   pub shows : (f g : Property) → AreParts about (more f (more g none)) (arguments sides) children →
       IsPart about (fix sides.path sides.shape f g) part.region part.node
   pub built : IsBuiltOf about k given part.region
 
--- where the regions of the arguments lack only states where these fail, so does that of the fixed point
+-- where the regions of the arguments lack only states where these fail, so does that of the fixpoint
 abbrev pub IsFullAlong : CaseSystem → Sides → Region → Type 0
 IsFullAlong about sides region =
     (f g : Property) → IsFull about f sides.first.now → IsFull about g sides.second.now → IsFull about (fix sides.path sides.shape f g) region
 
--- the last round of the fixed point of the regions of the arguments has other states than the next one
+-- the last round of the fixpoint of the regions of the arguments has other states than the next one
 abbrev pub IsOpenAlong : CaseSystem → ℕ → Sides → Type 0
 IsOpenAlong about last sides =
     let round = FixRound about sides.path sides.shape (InState sides.first.now) (InState sides.second.now) in
     Differ about (round last) (round (suc last))
 
--- what a gap of a fixed point itself says: whatever statement its arguments are made for, going back is not exact; or it has the number 0, and
+-- what a gap of a fixpoint itself says: whatever statement its arguments are made for, going back is not exact; or it has the number 0, and
 -- the last round has other states than the next one
 abbrev pub IsGapAlong : CaseSystem → ℕ → Sides → Gap → Type 0
 IsGapAlong about last sides Inexact = (s : Statement) (h : ℕ) → AreBuilt about s h (arguments sides) → IsTameStatement about s → ⊥

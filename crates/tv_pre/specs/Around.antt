@@ -30,7 +30,7 @@ abbrev pub next_of : CaseSystem → ℕ → Path → Marked → List Marked → 
 next_of about number Every p kid = steps_of number (about_with about) p kid (λ c. no_fall)
 next_of about number Any p kid = choice_of number kind.Choice (about_with about) p false (choice_into (about_with about) kid (λ c draws. no_fall)) ∷ []
 
--- whether both arguments of a fixed point are to hold at the end
+-- whether both arguments of a fixpoint are to hold at the end
 abbrev pub two_ends : Shape → Bool
 two_ends Until = false
 two_ends Weak = false

@@ -25,7 +25,7 @@ use Rattle.tv_pre.specs.Offers.{Adds}
 use Rattle.tv_pre.specs.declared.test.Test.{Test}
 use Rattle.tv_pre.specs.declared.test.Test.TheVariants.{Rows, Here, Elsewhere}
 
--- the lists of rows one of which is met at a location where the test is true
+-- at a location where the test is true, one of these lists of rows is met
 abbrev pub test_lists : Test → ℕ → List (List Linear)
 test_lists (Rows lists) l = map (λ v. v.items) lists.now
 test_lists (Here k) l = truth_targets (l == k)
@@ -63,16 +63,16 @@ abbrev pub atom_pieces : ℕ → Test → ℕ → List MarkedRows
 atom_pieces n test zero = []
 atom_pieces n test (suc k) = atom_pieces n test k ++ map (atom_piece n k) (test_lists test k)
 
--- the line that shows the row at the place of so many by itself: the row once, and its denial
+-- the line that shows by itself the row at the place among `count` rows: the row once, and its denial
 abbrev pub own_line : ℕ → ℕ → List ℤ
 own_line count place = zeros place ++ pos 1 ∷ (zeros (count - place - 1) ++ pos 1 ∷ [])
 
--- so many lines, from a place on
+-- k lines, from a place on
 abbrev pub own_lines : ℕ → ℕ → ℕ → List (List ℤ)
 own_lines count place zero = []
 own_lines count place (suc k) = own_line count place ∷ own_lines count (suc place) k
 
--- the cover by the target at the place, of which each row is shown by itself
+-- the cover by the target at the place; each row of the target is shown by itself
 abbrev pub IsOwnCover : ℕ → ℕ → CoverTree → Type 0
 IsOwnCover count place (cover.Split' r p a q b) = ⊥
 IsOwnCover count place (cover.Empty ms) = ⊥

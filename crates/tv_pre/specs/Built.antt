@@ -43,7 +43,7 @@ abbrev mutual
   SomeHasAtom no_statement a = ⊥
   SomeHasAtom (statement s ss) a = HasAtom s a ⊎ SomeHasAtom ss a
 
--- the lists of rows one of which is met at a location where the atom holds
+-- at a location where the atom holds, one of these lists of rows is met
 abbrev pub atom_lists : Statement → ℕ → List (List Linear)
 atom_lists (rows lists) l = lists
 atom_lists (here k) l = truth_targets (l == k)
@@ -63,9 +63,9 @@ pub record IsAtomRegion (about : CaseSystem) (a : Statement) (region : Region) :
 
 -- ---- regions
 
--- The region is that of an atom of the statement, or has all states or none, or is a copy of such a region, or a call on such regions gives it,
--- or it has the pieces of the layers of a fixed point in order. On the way to it at most h times a step is gone back; joining layers counts as
--- one step more, and there are at most two more of them than steps before.
+-- The region is that of an atom of the statement, or has all states or none, or is a copy of such a region, or a call on such regions gives
+-- it, or it has the pieces of the layers of a fixpoint in order. On the way to it at most h times a step is gone back; joining layers counts
+-- as one step more, and there are at most two more of them than steps before.
 pub data IsBuilt (about : CaseSystem) (s : Statement) : ℕ → Region → Type 0 where
   of_atom : (h : ℕ) (a : Statement) (region : Region) → HasAtom s a → IsAtomRegion about a region → IsBuilt about s h region
   of_everywhere : (h : ℕ) (region : Region) → IsEverywhere about region → IsBuilt about s h region
@@ -129,7 +129,7 @@ IsPreFault about s budget h faults.Memory = Unit {0}
 
 -- ---- what is made of given regions
 
--- whatever formula the regions are built for, the region is too, with so many more steps back
+-- whatever formula the regions are built for, the region is too, with k more steps back
 abbrev pub IsBuiltOf : CaseSystem → ℕ → List Region → Region → Type 0
 IsBuiltOf about k regions region = (s : Statement) (h : ℕ) → AreBuilt about s h regions → IsBuilt about s (k + h) region
 

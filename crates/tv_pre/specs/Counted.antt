@@ -1,4 +1,4 @@
--- How many pieces a refusal tells of, where no case has a draw.
+-- How many pieces a refusal reports, where no case has a draw.
 use Rattle.std.specs.Prelude.{◌≡◌, ℕ, ◌*◌, ◌≤◌, max, List, map}
 use Rattle.tv_formula.specs.declared.tree.Path.{Path}
 use Rattle.tv_formula.specs.Parts.{HasParts, AllHaveParts}
@@ -19,7 +19,7 @@ use Rattle.tv_pre.specs.declared.ranked_along.RankedAlong.TheVariants.{Everywher
 use Rattle.tv_pre.specs.declared.sides.Sides.{Sides}
 use Rattle.tv_pre.specs.Sized.{hold_count, end_count, AreCounted}
 
--- a refusal of a call on regions for too many pieces tells of no more of them than this number at its location
+-- a refusal of a call on regions for too many pieces reports no more of them than this number at its location
 abbrev pub IsWithin : (ℕ → ℕ) → PreFault → Type 0
 IsWithin bound (faults.Region fault) = IsFaultWithin bound fault
 IsWithin bound (faults.Cover fault) = Unit {0}
@@ -35,8 +35,8 @@ IsNoCall faults.Memory = Unit {0}
 
 -- ---- the formula
 
--- Whatever formula the statement is of, if each conjunction and disjunction in it has a part, the refusal tells of no more pieces than are
--- counted for the formula or for one of its subformulas at the location, with the rounds of its fixed points up to the last that the size takes.
+-- Whatever formula the statement is of, if each conjunction and disjunction in it has a part, the refusal reports no more pieces than are
+-- counted for the formula or for one of its subformulas at the location, with the rounds of its fixpoints up to the last that the size takes.
 abbrev pub IsCountedFor : CaseSystem → Statement → PreFault → Type 0
 IsCountedFor about s fault =
     HasNoDraws about → (last : ℕ) → IsLastRound about 9 last → (f : Property) → HasParts f → s ≡ stated (comparison_lists about.variables) f →
@@ -54,17 +54,17 @@ some_counts_at l regions = map (λ r. max 1 (count_at l r)) regions
 
 -- ---- going back
 
--- no more pieces than are counted for the states before so many pieces
+-- no more pieces than are counted for the states before a region that has at most b l pieces at each location l
 abbrev pub IsCountedBefore : CaseSystem → Path → Region → PreFault → Type 0
 IsCountedBefore about path into fault =
     HasNoDraws about → (b : ℕ → ℕ) → ((l : ℕ) → count_at l into ≤ b l) → IsWithin (next_count about.cases path b) fault
 
--- the same of those that stay in so many pieces
+-- the same of those that stay in such a region
 abbrev pub IsCountedStaying : CaseSystem → Path → Region → PreFault → Type 0
 IsCountedStaying about path into fault =
     HasNoDraws about → (b : ℕ → ℕ) → ((l : ℕ) → count_at l into ≤ b l) → IsWithin (staying_count about.cases path b) fault
 
--- ---- fixed points
+-- ---- fixpoints
 
 -- such numbers of the arguments that are at least 1
 pub record AreFullyCounted (sides : Sides) (f g : ℕ → ℕ) : Type 0 where
@@ -76,7 +76,7 @@ pub record AreFullyCounted (sides : Sides) (f g : ℕ → ℕ) : Type 0 where
 abbrev pub IsCountedEnd : Sides → PreFault → Type 0
 IsCountedEnd sides fault = (f g : ℕ → ℕ) → AreCounted sides f g → IsWithin (end_count sides.shape f g) fault
 
--- for those on the way that stay in so many pieces
+-- for those on the way that stay in a region with at most b l pieces at each location l
 abbrev pub IsCountedOnward : CaseSystem → Sides → Region → PreFault → Type 0
 IsCountedOnward about sides into fault =
     HasNoDraws about → (f g b : ℕ → ℕ) → AreFullyCounted sides f g → ((l : ℕ) → count_at l into ≤ b l) →
@@ -88,13 +88,13 @@ IsCountedGoing about sides fault =
     HasNoDraws about → (f g : ℕ → ℕ) → AreFullyCounted sides f g →
     IsWithin (λ l. hold_count sides.shape f g l * some_count about.cases (λ k. 1) l) fault
 
--- and for the fixed point
+-- and for the fixpoint
 abbrev pub IsCountedAlong : CaseSystem → Sides → PreFault → Type 0
 IsCountedAlong about sides fault =
     HasNoDraws about → (last : ℕ) → IsLastRound about 9 last → (f g : ℕ → ℕ) → AreFullyCounted sides f g →
     IsWithin (fix_count about.cases last sides.path sides.shape f g) fault
 
--- why it was not settled whether the fixed point holds everywhere
+-- why it was not settled whether the fixpoint holds everywhere
 abbrev pub IsUntoldCount : CaseSystem → Sides → RankedAlong → Type 0
 IsUntoldCount about sides (Everywhere part) = Unit {0}
 IsUntoldCount about sides (Unsettled nodes region) = Unit {0}

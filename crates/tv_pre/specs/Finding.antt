@@ -70,7 +70,7 @@ abbrev pub first_of : Option Gap → Option Gap → Option Gap
 first_of (Some gap) second = Some gap
 first_of None second = second
 
--- the gap of an argument, before which so many subformulas stand
+-- the gap of an argument with `count` subformulas before it
 abbrev pub gap_behind : ℕ → Option Gap → Option Gap
 gap_behind count None = None
 gap_behind count (Some Inexact) = Some Inexact
@@ -101,8 +101,8 @@ abbrev mutual
   AreEvenStatements n (statement s ss) = IsEvenStatement n s × AreEvenStatements n ss
 
 abbrev mutual
-  -- how often at most steps are gone back where the rounds of each fixed point are made up to the last: once for a formula on the next
-  -- states; for a fixed point once more than its rounds, and once more for a question about steps; twice as often for termination
+  -- how often at most steps are gone back where the rounds of each fixpoint are made up to the last: once for a formula on the next
+  -- states; for a fixpoint once more than its rounds, and once more for a question about steps; twice as often for termination
   pub steps_back : ℕ → Statement → ℕ
   steps_back last (rows lists) = 0
   steps_back last (here l) = 0
@@ -173,7 +173,7 @@ AreAtomsOfDifferences s = (lists : List (List Linear)) (r : Linear) → HasAtom 
 abbrev pub IsTameStatement : CaseSystem → Statement → Type 0
 IsTameStatement about s = HasNoDraws about ⊎ (AreOfDifferences about × AreAtomsOfDifferences s)
 
--- The property with this number is a fixed point, or termination or its negation, that round k does not settle. Where it can be told whether a
+-- The property with this number is a fixpoint, or termination or its negation, that round k does not settle. Where it can be told whether a
 -- state has a step, round k does not settle its negation either. If it is to come to its end on every run, or is termination or its negation,
 -- the ranks of the program do not serve for it.
 pub record IsOpenAt (about : CaseSystem) (k : ℕ) (fs : List Property) (place : ℕ) : Type 0 where
@@ -206,7 +206,7 @@ pub record IsPlainProgram (about : CaseSystem) : Type 0 where
   pub draws : HasNoDraws about
   pub acyclic : HasCycle about → ⊥
 
--- there no gap of the formula is told, if each comparison has rows
+-- there no gap of the formula is reported, if each comparison has rows
 abbrev pub HasNoGapIfPlain : CaseSystem → Statement → Option Gap → Type 0
 HasNoGapIfPlain about s gap =
     IsPlainProgram about → (f : Property) → States about s f → HasRows about.variables f → gap ≡ None

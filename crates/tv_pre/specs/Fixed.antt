@@ -1,4 +1,4 @@
--- The sides of fixed points, and what their nodes ask and owe.
+-- The sides of fixpoints, and what their nodes ask and owe.
 use Rattle.std.specs.Prelude.{◌≡◌, ◌⊎◌, ℕ, List, ◌++◌, Bool, true, false}
 use Rattle.std.specs.List.{flat_map}
 use Rattle.tv_program.specs.Steps.{State}
@@ -50,7 +50,7 @@ abbrev pub AsksWay : Sides → Piece → Question → Type 0
 AsksWay sides q a = a ≡ lies q (hold_side sides.shape sides.first.now sides.second.now).pieces.items
 
 -- ---- for ever
--- the pieces that are done are where the fixed point ends; the others are on the way, and their steps stay in all of them
+-- the pieces that are done are where the fixpoint ends; the others are on the way, and their steps stay in all of them
 pub record AreStaying (about : CaseSystem) (sides : Sides) (done onward own : List Piece) : Type 0 where
   pub ends : OfPieces about done (AtEnd sides)
   pub hold : OfPieces about onward (OnWay sides)

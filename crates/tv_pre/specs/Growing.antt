@@ -1,4 +1,4 @@
--- Fixed points that are to come to an end, by rounds.
+-- Fixpoints that are to come to an end, by rounds.
 use Rattle.std.specs.Prelude.{◌≡◌, ◌⊎◌, ℕ, suc, ◌<◌, ◌^◌, List, [], ◌∷◌, ◌++◌, length, map, All, pos, true, false}
 use Rattle.std.specs.List.{flat_map}
 use Rattle.tv_program.specs.Steps.{State}

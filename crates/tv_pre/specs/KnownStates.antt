@@ -24,8 +24,8 @@ pub record HasStates (about : CaseSystem) (alone : Bool) (set : State → Type 0
   pub all : (s : State) → IsStateOf about s → set s → InState region s
   pub only : alone ≡ true → (s : State) → IsStateOf about s → InState region s → set s
 
--- whatever formula the statement is of, where going back is exact and the comparisons have rows, these are the states that the rounds up to the
--- last tell of
+-- whatever formula the statement is of, where going back is exact and the comparisons have rows, these are the states that the rounds up to
+-- the last tell of
 abbrev pub IsKnownFor : CaseSystem → ℕ → Bool → Statement → Region → Type 0
 IsKnownFor about last alone s region =
     IsTameStatement about s → (f : Property) → States about s f → HasRows about.variables f → HasStates about alone (λ t. Known about last f t) region
@@ -41,7 +41,7 @@ AreKnownFor about last alone [] (region ∷ regions) = ⊥
 AreKnownFor about last alone (s ∷ ss) [] = ⊥
 AreKnownFor about last alone (s ∷ ss) (region ∷ regions) = IsKnownFor about last alone s region × AreKnownFor about last alone ss regions
 
--- the states that the rounds of a fixed point of two regions tell of
+-- the states that the rounds of a fixpoint of two regions tell of
 abbrev pub known_along : CaseSystem → ℕ → Sides → State → Type 0
 known_along about last sides s = FixKnown about last sides.path sides.shape (λ t. InState sides.first.now t) (λ t. InState sides.second.now t) s
 
@@ -50,7 +50,7 @@ abbrev pub IsKnownAlong : CaseSystem → ℕ → Bool → Sides → Region → T
 IsKnownAlong about last alone sides region =
     (s : Statement) (h : ℕ) → AreBuilt about s h (arguments sides) → IsTameStatement about s → HasStates about alone (λ t. known_along about last sides t) region
 
--- the fixed point of two regions holds
+-- the fixpoint of two regions holds
 abbrev pub holds_along : CaseSystem → Sides → State → Type 0
 holds_along about sides s =
     let first = λ (t : State). InState sides.first.now t in
@@ -62,7 +62,7 @@ abbrev pub HasHolding : CaseSystem → Sides → Along → Type 0
 HasHolding about sides along =
     must_end sides.shape ≡ false → along.gap ≡ None → (s : State) → IsStateOf about s → holds_along about sides s → InState along.part.region s
 
--- The regions of the arguments of a fixed point are to have the known states alone where its own region is, and where the fixed point need not
+-- The regions of the arguments of a fixpoint are to have the known states alone where its own region is, and where the fixpoint need not
 -- come to its end.
 pub record IsAloneIn (alone : Bool) (shape : Shape) (inner : Bool) : Type 0 where
   pub kept : alone ≡ true → inner ≡ true
@@ -70,11 +70,11 @@ pub record IsAloneIn (alone : Bool) (shape : Shape) (inner : Bool) : Type 0 wher
 
 -- ---- by rounds alone
 
--- if the fixed point of two regions is to come to its end, it is not ranked
+-- if the fixpoint of two regions is to come to its end, it is not ranked
 abbrev pub IsNotRanked : CaseSystem → Sides → Type 0
 IsNotRanked about sides = must_end sides.shape ≡ true → IsRankedOn about sides.path sides.shape (λ t. InState sides.first.now t) (λ t. InState sides.second.now t) → ⊥
 
--- the part has these states, if the fixed point is not ranked where its rounds leave a gap
+-- the part has these states, if the fixpoint is not ranked where its rounds leave a gap
 abbrev pub IsKnownByRounds : CaseSystem → ℕ → Bool → Sides → Along → Type 0
 IsKnownByRounds about last alone sides along =
     IfSome along.gap (λ gap. IsNotRanked about sides) → HasStates about alone (λ t. known_along about last sides t) along.part.region

@@ -24,20 +24,21 @@ use Rattle.tv_lexrank.specs.Shown.{FallsBy, ranks_there}
 use Rattle.tv_pre.specs.Pieces.{IsMarked, AreMarked}
 use Rattle.tv_pre.specs.Ranked.{EachOf}
 
--- The targets before the first one owe what they owed; each later one also owes the rows of a fall, which the lines show under the known rows.
+-- The targets before the first one owe what they owed; each later one also owes the rows of a fall, which the lines show under the known
+-- rows.
 pub record IsOwedWith (n first : ℕ) (known : List Known) (fall : Fall) (owed wanted : ℕ → ℕ → Option (List Known)) : Type 0 where
   pub before : (k : ℕ) → k < first → wanted k 0 ≡ owed k 0
   pub onward : (k : ℕ) (rows : List Known) → first ≤ k → owed k 0 ≡ Some rows → (falls : List Known) × (wanted k fall.number ≡ Some (rows ++ falls)) × Shown n known falls (lists fall.lines.items)
   pub only : (k j : ℕ) → owed k (suc j) ≡ None
 
--- Where the old cover is met by what is owed, the new one is met by what is owed with a fall; so many of the rows at the place are those of
--- the splits above.
+-- Where the old cover is met by what is owed, the new one is met by what is owed with a fall. `above` is the number of the rows at
+-- the place that are those of the splits above.
 abbrev pub GoesLower : Fall → ℕ → ℕ → CoverTree → CoverTree → Type 0
 GoesLower fall first above old new =
     (n : ℕ) (known sides : List Known) (owed wanted : ℕ → ℕ → Option (List Known)) → length sides ≡ above → AllHeld n sides →
     IsOwedWith n first known fall owed wanted → IsMetCover n owed (known ++ sides) old → IsMetCover n wanted (known ++ sides) new
 
--- the second cover is the first with the fall at the targets from the first so many on; it splits at the same rows
+-- the second cover is the first with the fall at the targets from number `first` on; it splits at the same rows
 pub record IsLowered (fall : Fall) (first above : ℕ) (old new : CoverTree) : Type 0 where
   pub lower : GoesLower fall first above old new
   pub deep : splits new ≡ splits old

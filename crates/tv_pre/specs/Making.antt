@@ -14,7 +14,7 @@ use Rattle.tv_shape.specs.Made.{HasOwn, Offers}
 use Rattle.tv_pre.specs.Pieces.{AreMarked, marked_as}
 use Rattle.tv_pre.specs.Around.{Around}
 
--- the pieces, which may be done where that is said, have so many ranks where they go on, and are those of the region
+-- the pieces are those of the region, may be done where `ends` says so, and have `ranks` ranks where they go on
 pub record ArePiecesOf (about : CaseSystem) (region : Region) (ends : Bool) (ranks : ℕ) (pieces : List Marked) : Type 0 where
   pub same : AreMarked pieces region.pieces.items
   pub shape : All (PieceShape about ranks ends) pieces
@@ -26,7 +26,7 @@ pub record IsMade (about : CaseSystem) (region : Region) (ends : Bool) (ranks : 
   pub bounded : length pieces < 2 ^ 32
   pub small : ranks < 2 ^ 32
 
--- the pieces of a region, each of which goes on without ranks
+-- the pieces of a region; each goes on without ranks
 abbrev pub plain_pieces : ℕ → Region → List Marked
 plain_pieces n region = map (marked_as n Go []) region.pieces.items
 

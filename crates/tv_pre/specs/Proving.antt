@@ -114,7 +114,7 @@ abbrev pub IsTameClaim : CaseSystem → Claim → Type 0
 IsTameClaim about claim =
     HasNoDraws about ⊎ (AreOfDifferences about × AreAtomsOfDifferences (aim_states claim.proved_aim) × AreAtomsOfDifferences (aim_states claim.denied_aim))
 
--- the property of the claim has a next state, a fixed point or termination
+-- the property of the claim has a next state, a fixpoint or termination
 abbrev pub IsMovingClaim : Claim → Type 0
 IsMovingClaim claim = (f : Property) → IsClaim claim f → IsTrue (is_local f) → ⊥
 
@@ -122,8 +122,8 @@ IsMovingClaim claim = (f : Property) → IsClaim claim f → IsTrue (is_local f)
 abbrev pub IsUndecidedClaim : CaseSystem → Claim → Type 0
 IsUndecidedClaim about claim = (f : Property) → IsClaim claim f → IsDecided about f → ⊥
 
--- the program is tame for the claim, which is undecided, and the last round does not settle the subformula with the number, of the normal form
--- or of the negation
+-- the program is tame for the claim, which is undecided, and the last round does not settle the subformula with the number, of the normal
+-- form or of the negation
 pub record IsOpenClaim (about : CaseSystem) (claim : Claim) (last place : ℕ) : Type 0 where
   pub tame : IsTameClaim about claim
   pub undecided : IsUndecidedClaim about claim

@@ -49,18 +49,18 @@ pub record IsLayered (n : ℕ) (q : Piece) (done into : List Piece) (p : Marked)
   pub all_are : AreMarked (dones ++ ranked) into
 
 -- ---- trees with falls
--- multipliers 0 for so many rows, and 1 for the denial of the row that is shown
+-- multipliers 0 for `count` rows, and 1 for the denial of the row that is shown
 abbrev pub last_line : ℕ → List ℤ
 last_line count = zeros count ++ pos 1 ∷ []
 
--- Where a target is entered from the first so many on, that is done by fall 1, and the two rows of the fall are shown by their denials, at
--- so many rows; another target is entered as before.
+-- A target from number `first` on is entered by fall 1, and the two rows of the fall are shown by their denials, at `count` rows. Another
+-- target is entered as before.
 pub record IsFallingEntry (first count target fall new_target new_fall : ℕ) (lists new : List (List ℤ)) : Type 0 where
   pub same : new_target ≡ target
   pub before : target < first → (new_fall ≡ fall) × (new ≡ lists)
   pub onward : first ≤ target → (new_fall ≡ 1) × (new ≡ lists ++ last_line count ∷ last_line count ∷ [])
 
--- the second cover is the first with such falls, at so many rows
+-- the second cover is the first with such falls, at `count` rows
 abbrev pub IsFallingCover : ℕ → ℕ → CoverTree → CoverTree → Type 0
 IsFallingCover first count (cover.Split' r p a q b) (cover.Split' s t x u y) =
     (s ≡ r) × IsFallingCover first (count + 1) a x × IsFallingCover first (count + 1) b y

@@ -1,4 +1,4 @@
--- Fixed points that are to come to an end, in programs whose states are all ranked.
+-- Fixpoints that are to come to an end, in programs whose states are all ranked.
 use Rattle.std.specs.Prelude.{◌≡◌, ◌⊎◌, List, ◌∷◌, true}
 use Rattle.tv_program.specs.Steps.{State}
 use Rattle.tv_formula.specs.declared.tree.Path.TheVariants.{Every}
@@ -35,12 +35,12 @@ AllGo about sides = (s : State) → IsStateOf about s → AtEnd sides s ⊎ (OnW
 abbrev pub IsBesideIfTame : CaseSystem → Sides → Type 0
 IsBesideIfTame about sides = AreTameCases about → SomeIsBeside about (λ s. OnWay sides s) (λ s. AtEnd sides s)
 
--- the ranks do not serve for the fixed point of these sides, if it is to come to its end on every run
+-- the ranks do not serve for the fixpoint of these sides, if it is to come to its end on every run
 abbrev pub IsUnservedAlong : CaseSystem → Sides → Type 0
 IsUnservedAlong about sides =
     sides.path ≡ Every → must_end sides.shape ≡ true → IsUnservedBy about sides.shape (InState sides.first.now) (InState sides.second.now)
 
--- The part of the fixed point has all states, and each is at the end or on the way with a step; or the nodes of its arguments and the states at
+-- The part of the fixpoint has all states, and each is at the end or on the way with a step; or the nodes of its arguments and the states at
 -- its end are given back, and some state is neither, where going back is exact, or that was not settled.
 abbrev pub IsRankedAlong : CaseSystem → Sides → List Node → Region → RankedAlong → Type 0
 IsRankedAlong about sides children end (Everywhere part) =

@@ -1,4 +1,4 @@
--- Fixed points that are to come to an end, where all states are ranked.
+-- Fixpoints that are to come to an end, where all states are ranked.
 use Rattle.std.specs.Prelude.{◌≡◌, ◌⊎◌, ℕ, List, ◌++◌, false, true}
 use Rattle.std.specs.List.{flat_map}
 use Rattle.tv_formula.specs.declared.tree.Path.TheVariants.{Every}
@@ -22,8 +22,8 @@ use Rattle.tv_pre.specs.Pieces.{InPieces, AreMarked}
 use Rattle.tv_pre.specs.Questions.{Question, AsksOf}
 use Rattle.tv_pre.specs.Ranked.{EachOf}
 
--- the pieces that are done are where the fixed point ends; the others are on the way, and each step from them, of which there is one, leads
--- into all of them
+-- The pieces that are done are where the fixpoint ends; the others are on the way. A step leads from each state of these, and each such
+-- step leads into the pieces together.
 pub record AreComing (about : CaseSystem) (sides : Sides) (done onward own : List Piece) : Type 0 where
   pub ends : OfPieces about done (AtEnd sides)
   pub hold : OfPieces about onward (OnWay sides)

@@ -21,7 +21,7 @@ pub record IsRanking (about : CaseSystem) (ranking : Ranking) : Type 0 where
   pub ranked : IsRankedBy about [] ranking.node ranking.shown.items
   pub lexicographic : HasLexicographicRanking about
 
--- what is known of the ranks of the cases, where the search for them goes on for so many pivots
+-- what is known of the ranks of the cases, where the search for them goes on for `pivots` pivots
 abbrev pub AreRanks : CaseSystem → ℕ → Ranks → Type 0
 AreRanks about pivots (Known ranking) = IsRanking about ranking
 AreRanks about pivots Lacking = IsUnranked about

@@ -20,7 +20,7 @@ use Rattle.tv_pre.specs.declared.sides.Sides.{Sides}
 -- ---- the formula
 
 -- Whatever formula the statement is of, the region has at each location no more pieces than are counted for the formula, with the rounds of
--- its fixed points up to the last that the size takes.
+-- its fixpoints up to the last that the size takes.
 abbrev pub IsFewFor : CaseSystem → Statement → Region → Type 0
 IsFewFor about s region =
     HasNoDraws about → (last : ℕ) → IsLastRound about 9 last → (f : Property) → s ≡ stated (comparison_lists about.variables) f →
@@ -38,19 +38,19 @@ counts_at l regions = map (λ r. count_at l r) regions
 
 -- ---- going back
 
--- no more pieces than are counted for the states before so many pieces
+-- no more pieces than are counted for the states before a region that has at most b l pieces at each location l
 abbrev pub IsFewBefore : CaseSystem → Path → Region → Region → Type 0
 IsFewBefore about path into region =
     HasNoDraws about → (b : ℕ → ℕ) → ((l : ℕ) → count_at l into ≤ b l) →
     (l : ℕ) → count_at l region ≤ next_count about.cases path b l
 
--- the same of those that stay in so many pieces
+-- the same of those that stay in such a region
 abbrev pub IsFewStaying : CaseSystem → Path → Region → Region → Type 0
 IsFewStaying about path into region =
     HasNoDraws about → (b : ℕ → ℕ) → ((l : ℕ) → count_at l into ≤ b l) →
     (l : ℕ) → count_at l region ≤ staying_count about.cases path b l
 
--- ---- fixed points
+-- ---- fixpoints
 
 -- of the argument that is to hold on the way, for the counts of both
 abbrev pub hold_count : Shape → (ℕ → ℕ) → (ℕ → ℕ) → ℕ → ℕ
@@ -75,7 +75,7 @@ pub record AreCounted (sides : Sides) (f g : ℕ → ℕ) : Type 0 where
 abbrev pub IsFewEnd : Sides → Region → Type 0
 IsFewEnd sides end = (f g : ℕ → ℕ) → AreCounted sides f g → (l : ℕ) → count_at l end ≤ end_count sides.shape f g l
 
--- so has that of the states on the way that stay in so many pieces
+-- so has that of the states on the way that stay in a region with at most b l pieces at each location l
 abbrev pub IsFewOnward : CaseSystem → Sides → Region → Region → Type 0
 IsFewOnward about sides into region =
     HasNoDraws about → (f g b : ℕ → ℕ) → AreCounted sides f g → ((l : ℕ) → count_at l into ≤ b l) →
@@ -87,7 +87,7 @@ IsFewGoing about sides region =
     HasNoDraws about → (f g : ℕ → ℕ) → AreCounted sides f g →
     (l : ℕ) → count_at l region ≤ hold_count sides.shape f g l * some_count about.cases (λ k. 1) l
 
--- and that of the fixed point
+-- and that of the fixpoint
 abbrev pub IsFewAlong : CaseSystem → Sides → Region → Type 0
 IsFewAlong about sides region =
     HasNoDraws about → (last : ℕ) → IsLastRound about 9 last → (f g : ℕ → ℕ) → AreCounted sides f g →

@@ -28,7 +28,7 @@ abbrev mutual
   AreOfDifferencesIn (statement s ss) = IsOfDifferencesIn s × AreOfDifferencesIn ss
 
 abbrev mutual
-  -- the statement is of one state: there is no next state in it, no fixed point and no termination
+  -- the statement is of one state: there is no next state in it, no fixpoint and no termination
   pub IsLocalStatement : Statement → Type 0
   IsLocalStatement (rows lists) = Unit {0}
   IsLocalStatement (here l) = Unit {0}

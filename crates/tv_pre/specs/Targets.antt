@@ -7,7 +7,7 @@ use Rattle.tv_farkas.specs.declared.fault.CoverFault.{CoverFault}
 use Rattle.tv_farkas.specs.declared.fault.CoverFault.TheVariants.{Splits, Solve, Wide, Memory}
 use Rattle.tv_pre.specs.Questions.{IsTooWide}
 
--- the lists of rows before the case, each row of which fits
+-- the lists of rows before the case, where each row fits
 pub record AreBefore (c : LinearCase) (lists made : List (List Linear)) : Type 0 where
   pub exact : made ≡ map (rows_before c) lists
   pub fits : All (All (FitsBefore c)) lists

@@ -1,4 +1,4 @@
--- When the search for a formula tells of no gap.
+-- When the search for a formula reports no gap.
 use Rattle.std.specs.Prelude.{◌≡◌, ℕ, ◌<◌, ◌≤◌, List, Contains}
 use Rattle.tv_program.specs.Steps.{State}
 use Rattle.tv_formula.specs.Normal.{normal}
@@ -29,7 +29,7 @@ use Rattle.tv_pre.specs.Finding.{IsTameStatement, IsPlainProgram}
 use Rattle.tv_pre.specs.Proving.{IsUnproved}
 use Rattle.tv_pre.specs.Unserved.{IsRankingRefused}
 
--- round k settles each fixed point among the properties, and termination and its negation if they are among them
+-- round k settles each fixpoint among the properties, and termination and its negation if they are among them
 abbrev pub AreSettled : CaseSystem → ℕ → List Property → Type 0
 AreSettled about k fs = (f : Property) → Contains fs f → IsUnsettled about k f → ⊥
 
@@ -39,7 +39,7 @@ pub record IsClaimOn (about : CaseSystem) (claim : Claim) (f : Property) : Type 
   pub variables : claim_variables claim ≡ about.variables
 
 -- where going back is exact for the normal form of a property - no case has a draw, or the cases and the comparisons are of differences - and
--- the last round settles each fixed point of it, and termination where it stands in it, no claim of the property is left open with a gap:
+-- the last round settles each fixpoint of it, and termination where it stands in it, no claim of the property is left open with a gap:
 -- nothing is asked of the negation
 abbrev pub SettledIsTold : CaseSystem → Claim → Property → Budget → Gap → Type 0
 SettledIsTold about claim f budget gap =
@@ -51,8 +51,8 @@ abbrev pub PlainIsTold : CaseSystem → Claim → Budget → Gap → Type 0
 PlainIsTold about claim budget gap =
     IsPlainProgram about → IsUnproved about claim budget (unproved.Left gap) → ⊥
 
--- nor where going back is exact for the normal form, and the rounds up to the last tell of each state at the start that the property holds there,
--- or of one that its negation does
+-- nor where going back is exact for the normal form, and the rounds up to the last tell of each state at the start that the property holds
+-- there, or of one that its negation does
 abbrev pub DecidedIsTold : CaseSystem → Claim → Property → Budget → Gap → Type 0
 DecidedIsTold about claim f budget gap =
     IsClaimOn about claim f → IsTameStatement about (aim_states claim.proved_aim) → IsDecided about f → (last : ℕ) → IsLastRound about 8 last
@@ -65,8 +65,8 @@ RankedUntilIsTold about claim f budget gap =
     IsClaimOn about claim f → HasNoDraws about → IsRankedUntil about f → (last : ℕ) → IsLastRound about 8 last
     → IsUnproved about claim budget (unproved.Left gap) → ⊥
 
--- Where no case has a draw, and each conjunction and disjunction of the property has a part, a claim of it that is refused for too many pieces
--- is refused for no more of them than the size of the property; and the limit is below that number.
+-- Where no case has a draw, and each conjunction and disjunction of the property has a part, a claim of it that is refused for too many
+-- pieces is refused for no more of them than the size of the property; and the limit is below that number.
 abbrev pub RefusalIsWithinSize : CaseSystem → Claim → Property → Budget → Type 0
 RefusalIsWithinSize about claim f budget =
     IsClaimOn about claim f → HasNoDraws about → HasParts f → (location pieces : ℕ) →
@@ -77,7 +77,7 @@ RefusalIsWithinSize about claim f budget =
 abbrev pub AcyclicIsSettled : CaseSystem → Path → Shape → (State → Type 0) → (State → Type 0) → Type 0
 AcyclicIsSettled about path shape hold end = (HasCycle about → ⊥) → IsSettled about path shape hold end about.locations
 
--- so it settles each fixed point, `term` and its negation
+-- so it settles each fixpoint, `term` and its negation
 abbrev pub NoneIsUnsettled : CaseSystem → Property → Type 0
 NoneIsUnsettled about f = (HasCycle about → ⊥) → IsUnsettled about about.locations f → ⊥
 

@@ -1,4 +1,4 @@
--- Why the ranks of a program do not serve for a fixed point that is to come to its end on every run.
+-- Why the ranks of a program do not serve for a fixpoint that is to come to its end on every run.
 use Rattle.std.specs.Prelude.{◌≡◌, ◌⊎◌, ℕ, true}
 use Rattle.tv_program.specs.Steps.{State}
 use Rattle.tv_formula.specs.declared.tree.Path.TheVariants.{Every}
@@ -20,7 +20,7 @@ use Rattle.tv_lexrank.specs.declared.fault.RankFault.TheVariants as ranks
 
 -- ---- the ranking
 
--- for so many pivots, the system of this name of the search for a ranking has the fault, which is no want of memory
+-- for `pivots` pivots, the system of this name of the search for a ranking has the fault, which is no want of memory
 pub record IsRankingRefused (about : CaseSystem) (pivots : ℕ) (system : Name) (fault : SolveFault) : Type 0 where
   pub refuses : RefusesFirst about pivots (ranks.Solve system fault)
   pub is_no_want : fault ≡ solving.Memory → ⊥
@@ -51,13 +51,14 @@ pub record SomeIsBeside (about : CaseSystem) (hold end : State → Type 0) : Typ
   pub not_end : end state → ⊥
   pub not_way : hold state → Goes about state → ⊥
 
--- ---- the fixed point
+-- ---- the fixpoint
 
--- of two sets: there is no ranking; or, where going back is exact, some state is neither at the end of the fixed point nor on the way with a step
+-- of two sets: there is no ranking; or, where going back is exact, some state is neither at the end of the fixpoint nor on the way with a
+-- step
 abbrev pub IsUnservedBy : CaseSystem → Shape → (State → Type 0) → (State → Type 0) → Type 0
 IsUnservedBy about shape f g = IsUnranked about ⊎ (AreTameCases about → SomeIsBeside about (λ s. HoldSide shape f g s) (λ s. EndSides shape f g s))
 
--- so it is with the property, if it is such a fixed point; if it is termination or its negation, there is no ranking
+-- so it is with the property, if it is such a fixpoint; if it is termination or its negation, there is no ranking
 abbrev pub IsUnserved : CaseSystem → Property → Type 0
 IsUnserved about term = IsUnranked about
 IsUnserved about (negated term) = IsUnranked about

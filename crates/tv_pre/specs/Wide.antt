@@ -38,7 +38,7 @@ pub record IsWideAt (n : ℕ) (fs : List Property) (place : ℕ) : Type 0 where
   pub there : slice_get fs place ≡ Some (compare relation left right)
   pub wide : has_rows n relation left right ≡ false
 
--- what is told of the comparisons among these properties
+-- what is said of the comparisons among these properties
 abbrev pub AreTold : ℕ → List Property → Comparisons → Type 0
 AreTold n fs (HaveRows size) = All (HasOwnRows n) fs × (size ≡ length fs)
 AreTold n fs (Wide place) = IsWideAt n fs place

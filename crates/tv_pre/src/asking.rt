@@ -14,7 +14,7 @@ fn any_asks(aims: &[Aim]) -> bool {
     false
 }
 
-/// Whether termination stands in the formula, or a fixed point over every run that must come to its end. For others the ranks of the program
+/// Whether termination stands in the formula, or a fixpoint over every run that must come to its end. For others the ranks of the program
 /// are of no use, and to look for them may take long.
 #[cycle(asking)]
 pub(crate) fn asks_ranks(aim: &Aim) -> bool {

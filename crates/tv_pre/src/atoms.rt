@@ -16,7 +16,7 @@ use tv_cases::Cases;
 use tv_cert::Proof;
 use tv_linear::{Cover, CoverTree, Piece, Poly, Region, Row, push_copies, push_item};
 
-/// The line that shows a row that is among so many: the row once, and its denial.
+/// The line that shows the row at `place` among `count` rows: the row once, and its denial.
 fn own_line(alloc: Global, count: usize, place: usize) -> Result<Vec<i64>, AllocError>
     requires { place < count }
     ensures { IfOk result (λ v. v.items ≡ own_line count place) }
@@ -29,7 +29,7 @@ fn own_line(alloc: Global, count: usize, place: usize) -> Result<Vec<i64>, Alloc
     Ok(line)
 }
 
-/// Such a line for each of so many rows.
+/// Such a line for each of `count` rows.
 fn own_lines(alloc: Global, count: usize) -> Result<Vec<Vec<i64>>, AllocError>
     ensures { IfOk result (λ v. map (λ l. l.items) v.items ≡ own_lines count 0 count) }
 {
@@ -40,7 +40,7 @@ fn own_lines(alloc: Global, count: usize) -> Result<Vec<Vec<i64>>, AllocError>
     Ok(lines)
 }
 
-/// The cover of so many rows by the target at the place, which has these rows.
+/// The cover of `count` rows by the target at the place, which has these rows.
 fn own_cover(alloc: Global, count: usize, place: u32) -> Result<Cover, AllocError>
     ensures { IfOk result (IsOwnCover count place) }
 {

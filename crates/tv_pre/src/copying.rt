@@ -49,7 +49,7 @@ pub(crate) fn found_alike(
     }
 }
 
-/// What is found of a formula where it is equal to one of those of the first of which this was found: a copy of it.
+/// A copy of what was found of an equal formula, if `founds` has one. Its items are those of the first of `aims`, in order.
 pub(crate) fn found_before(
     search: &Search,
     aims: &[Aim],

@@ -134,7 +134,7 @@ fn left(setting: &Setting, claim: &Claim, first: Option<Gap>, second: Option<Gap
     requires left { IsLeft (cases_of setting.now.about.now) claim.now first second }
     ensures { IsUnproved (cases_of setting.now.about.now) claim.now setting.now.budget.now result }
 {
-    // That the start is a location is known by this call.
+    // From this call it is known that the start is a location.
     let _variables = setting.about.variables();
     match first_wide(setting, claim) {
         Err(_) => Unproved::Refused(PreFault::Memory),

@@ -19,7 +19,7 @@ use tv_farkas::CoverFault;
 use tv_formula::Path;
 use tv_linear::Region;
 
-/// The part of the negation of termination: a region from each state of which some step leads into it, so that an endless run begins there.
+/// The part of the negation of termination: a region. From each of its states some step leads into it, so that an endless run begins there.
 ///
 /// A refusal is of a question whether from each state of a piece some step leads into the region.
 pub fn never_ends(setting: &Setting, region: Region) -> Result<Part, CoverFault>

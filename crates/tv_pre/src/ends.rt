@@ -1,4 +1,4 @@
-// Pieces of fixed points that are done.
+// Pieces of fixpoints that are done.
 
 ghost use Rattle.std.specs.Prelude.{◌≡◌, map, IfOk};
 ghost use Rattle.tv_cert.specs.declared.node.Kind.TheVariants as kind;

@@ -205,7 +205,7 @@ fn after_found(search: &Search, path: Path, child: Found) -> Result<Found, PreFa
     ensures counted { let about = system_of search.now in
         IfErr result (λ fault. (s : Statement) → IsFound about search.now.last s child → IsCountedFor about (statements.after path s) fault) }
 {
-    // That the cases are proper is known by this call.
+    // From this call it is known that the cases are proper.
     let _variables = search.setting.about.variables();
     let size = added(1, child.size)?;
     let Part { region: into, node } = child.part;
@@ -218,14 +218,14 @@ fn after_found(search: &Search, path: Path, child: Found) -> Result<Found, PreFa
     Ok(Found { part, gap, size })
 }
 
-/// What is found of a fixed point, and whether its own rounds leave no gap, whatever gaps its arguments have.
+/// What is found of a fixpoint, and whether its own rounds leave no gap, whatever gaps its arguments have.
 #[derive(Drop)]
 pub(crate) struct FoundAlong {
     pub found: Found,
     pub settled: bool,
 }
 
-/// What is found of a fixed point.
+/// What is found of a fixpoint.
 fn along_found(
     search: &Search,
     path: Path,
@@ -260,7 +260,7 @@ fn along_found(
         IfErr result (λ fault. (s t : Statement) → IsFound about search.now.last s first → IsFound about search.now.last t second →
         IsCountedFor about (statements.along path shape s t) fault) }
 {
-    // That the cases are proper is known by this call.
+    // From this call it is known that the cases are proper.
     let _variables = search.setting.about.variables();
     let size = added(1, added(first.size, second.size)?)?;
     let left = gap_after(1, first.gap)?;
@@ -387,11 +387,11 @@ fn found_of(search: &Search, aim: &Aim) -> Result<Found, PreFault>
 /// first is searched for, and the others are copies.
 ///
 /// The region of an atom has its rows at each location; conjunctions and disjunctions have the states that each argument has, or one of
-/// them. A formula on the next states has those all of whose steps lead into the region of its argument, or some step. A fixed point has the
+/// them. A formula on the next states has those all of whose steps lead into the region of its argument, or some step. A fixpoint has the
 /// states at its end, and, where going back over the steps is exact, those of its rounds: up to the eighth in a program with a cycle, and
-/// else up to as many as it has locations. Termination is the fixed point over every run that comes to a state without a step, and its
-/// negation the one over some run each state of which has a step. A `gap` says why the region may lack states: the program is not tame for
-/// the formula; or, if each comparison has rows, the subformula that it names is a fixed point, or termination or its negation, that the last
+/// else up to as many as it has locations. Termination is the fixpoint over every run that comes to a state without a step, and its
+/// negation the one over some run where each state has a step. A `gap` says why the region may lack states: the program is not tame for
+/// the formula; or, if each comparison has rows, the subformula that it names is a fixpoint, or termination or its negation, that the last
 /// round does not settle. Where there is none, and each comparison has rows, the region has exactly the states where the formula holds, and
 /// at each other one its negation does.
 ///
@@ -401,9 +401,9 @@ fn found_of(search: &Search, aim: &Aim) -> Result<Found, PreFault>
 /// open, the arguments are searched for again with the states alone that the rounds tell of: whether rounds settle may change with each
 /// state more.
 ///
-/// Where the whole program has a lexicographic ranking, termination holds everywhere, and so does a fixed point over every run that must
+/// Where the whole program has a lexicographic ranking, termination holds everywhere, and so does a fixpoint over every run that must
 /// come to an end if each state is at its end, or on the way with a step. Where a system of the search for the ranking is refused, and the
-/// rounds of such a fixed point, or of termination or its negation, leave a gap, the refusal is given in place of the gap.
+/// rounds of such a fixpoint, or of termination or its negation, leave a gap, the refusal is given in place of the gap.
 ///
 /// Any other refusal is of a call on regions, or of a question about their pieces, that are made of the atoms of the formula.
 pub fn found(setting: &Setting, aim: &Aim) -> Result<Found, PreFault>
@@ -436,7 +436,7 @@ pub fn found(setting: &Setting, aim: &Aim) -> Result<Found, PreFault>
         IsRefusedFor system setting.now.budget.now last (aim_states aim.now) fault) }
     ensures counted { IfErr result (IsCountedFor (cases_of setting.now.about.now) (aim_states aim.now)) }
 {
-    // That the cases are proper is known by this call.
+    // From this call it is known that the cases are proper.
     let _variables = setting.about.variables();
     let ranks = ranks_for(setting, aim)?;
     let search = search_in(setting, &ranks)?;

@@ -8,7 +8,7 @@ use std::alloc::AllocError;
 pub enum Gap {
     /// Going back over the steps of the program is not exact for some subformula.
     Inexact,
-    /// No round of the fixed point up to the last one equals the next. Termination and its negation are such fixed points too.
+    /// No round of the fixpoint up to the last one equals the next. Termination and its negation are such fixpoints too.
     Open {
         /// The number of the subformula: each stands before its arguments, and these in order. A negation counts with what it negates as one.
         place: u32,
@@ -25,7 +25,7 @@ pub(crate) fn added(first: u32, second: u32) -> Result<u32, AllocError>
     }
 }
 
-/// The gap of an argument, before which so many subformulas stand.
+/// The gap of an argument with `count` subformulas before it.
 pub(crate) fn gap_after(count: u32, gap: Option<Gap>) -> Result<Option<Gap>, AllocError>
     ensures { IfOk result (λ after. after ≡ gap_behind count gap) }
 {

@@ -1,4 +1,4 @@
-// The nodes of fixed points that are to come to an end: until and strong until.
+// The nodes of fixpoints that are to come to an end: until and strong until.
 
 ghost use Rattle.std.specs.Prelude.{◌≡◌, ◌≤◌, ◌<◌, ◌-◌, ◌^◌, ◌⊎◌, ◌++◌, [], ◌∷◌, pos, true, IfOk};
 ghost use Rattle.std.specs.Result.{IfErr};
@@ -86,7 +86,7 @@ fn started(setting: &Setting, sides: &Sides, done: Region) -> Result<Grown, Cove
     })
 }
 
-/// The node with the pieces of one more layer, of which it has the proofs. There is no room for 2^32 rounds.
+/// The node with the pieces of one more layer. It has the proofs of that layer already. There is no room for 2^32 rounds.
 pub(crate) fn with_layer(
     setting: &Setting,
     grown: Grown,

@@ -22,7 +22,7 @@ pub fn full_regions_tell()
     ensures tell { (about : CaseSystem) (f : Property) → FullTell about f }
 {}
 
-/// No claim is left open with a gap where the program is tame for the normal form, and the last round settles each fixed point of it, and
+/// No claim is left open with a gap where the program is tame for the normal form, and the last round settles each fixpoint of it, and
 /// termination and its negation where they stand in it; nor where the program has neither a draw nor a cycle. Nothing is asked of the
 /// negation, as its rounds are the complements of those of the normal form.
 pub fn settled_claims_are_told()
@@ -31,7 +31,7 @@ pub fn settled_claims_are_told()
 {}
 
 /// No claim is left open with a gap where the program is tame for the normal form, and the rounds up to the last tell of each state at the
-/// start that the property holds there, or of one that the negation does: whether other fixed points of it are settled or not, and of
+/// start that the property holds there, or of one that the negation does: whether other fixpoints of it are settled or not, and of
 /// states that are not at the start.
 pub fn decided_claims_are_told()
     ensures { (about : CaseSystem) → AreCases about → (claim : Claim) (f : Property) (budget : Budget) (gap : Gap) →
@@ -46,7 +46,7 @@ pub fn ranked_untils_are_told()
         RankedUntilIsTold about claim f budget gap }
 {}
 
-/// In a program without a cycle, the round of the number of locations equals the next one: it settles each fixed point, and each subformula.
+/// In a program without a cycle, the round of the number of locations equals the next one: it settles each fixpoint, and each subformula.
 pub fn acyclic_rounds_settle<S: Sides>()
     ensures rounds { (about : CaseSystem) → AreProper about → (path : Path) (shape : Shape) → AcyclicIsSettled about path shape S.hold S.end }
     ensures formulas { (about : CaseSystem) → AreProper about → (f : Property) → NoneIsUnsettled about f }

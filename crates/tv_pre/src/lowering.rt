@@ -33,7 +33,7 @@ fn number_of(fall: &Fall) -> u32
     fall.number
 }
 
-/// The cover, below so many splits, with the lines of the fall at the targets from the first so many on.
+/// The cover, below `above` splits, with the lines of the fall at the targets from number `first` on.
 fn lowered(
     alloc: Global,
     tree: &CoverTree,

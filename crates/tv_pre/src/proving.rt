@@ -51,7 +51,7 @@ pub(crate) fn prove_cover(
     }
 }
 
-/// Adds a choice at a piece from each state of which a step leads into a region, or none may lead on.
+/// Adds a choice at a piece. From each of its states a step leads into a region, or none leads on where `stop` allows that.
 pub(crate) fn prove_choice(
     setting: &Setting,
     piece: &Piece,

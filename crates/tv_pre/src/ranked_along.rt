@@ -1,4 +1,4 @@
-// Fixed points that are to come to an end, where all states are ranked.
+// Fixpoints that are to come to an end, where all states are ranked.
 
 ghost use Rattle.std.specs.Prelude.{◌≡◌, ◌≤◌, [], ◌∷◌, true, IsTrue, IsFalse, IfOk};
 ghost use Rattle.std.specs.Result.{IfErr};
@@ -26,7 +26,7 @@ use tv_formula::Path;
 use tv_linear::Region;
 use tv_region::both;
 
-/// What the ranks of a program tell of a fixed point that is to come to an end.
+/// What the ranks of a program tell of a fixpoint that is to come to an end.
 #[derive(Drop)]
 pub(crate) enum RankedAlong {
     /// It holds everywhere: every state is at the end, or on the way with a step.

@@ -1,4 +1,4 @@
-// The nodes of fixed points that are to come to an end where all states are ranked.
+// The nodes of fixpoints that are to come to an end where all states are ranked.
 
 ghost use Rattle.std.specs.Prelude.{◌≡◌, ◌≤◌, ◌⊎◌, [], ◌∷◌, true, IfOk};
 ghost use Rattle.std.specs.Result.{IfErr};

@@ -22,7 +22,7 @@ use tv_rounds::{has_no_draws, must_end};
 /// The last round that is made in a program with a cycle.
 const LAST_OF_CYCLE: u32 = 8;
 
-/// A setting, with the last round of a fixed point that is made, what going back over the steps of the program is exact for, its ranks, and
+/// A setting, with the last round of a fixpoint that is made, what going back over the steps of the program is exact for, its ranks, and
 /// what regions may have.
 #[derive(Drop)]
 pub(crate) struct Search<'a> {
@@ -38,7 +38,7 @@ pub(crate) struct Search<'a> {
     pub alone: bool,
 }
 
-/// The last round that is made of each fixed point: in a program without a cycle one for each location.
+/// The last round that is made of each fixpoint: in a program without a cycle one for each location.
 fn last_round(setting: &Setting) -> Result<u32, AllocError>
     ensures { IfOk result (λ last. IsLastRound (cases_of setting.now.about.now) 8 last) }
 {
@@ -84,7 +84,7 @@ pub(crate) fn search_in<'a>(
 }
 
 impl<'a> Search<'a> {
-    /// The search of the arguments of a fixed point of this shape from which its region is made whether its rounds settle or not. Those of a
+    /// The search of the arguments of a fixpoint of this shape from which its region is made whether its rounds settle or not. Those of a
     /// weak until or a release have the states alone that the rounds tell of: whether such rounds settle may change with each state more.
     pub(crate) fn of_arguments(&self, shape: Shape) -> Search<'a>
         requires search { IsSearch self.now }

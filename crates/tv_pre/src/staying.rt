@@ -1,4 +1,4 @@
-// The nodes of fixed points that may hold for ever: weak until and release.
+// The nodes of fixpoints that may hold for ever: weak until and release.
 
 ghost use Rattle.std.specs.Prelude.{◌≡◌, ◌≤◌, ◌⊎◌, ℕ, List, [], ◌∷◌, false, IfOk};
 ghost use Rattle.std.specs.Result.{IfErr};

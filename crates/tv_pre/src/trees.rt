@@ -11,7 +11,7 @@ use std::alloc::{AllocError, Global};
 use tv_cases::Cases;
 use tv_linear::{ChoiceTree, CoverTree, Piece, copies_of_lists, push_copies, push_item};
 
-/// Multipliers 0 for so many rows, and 1 for the denial of the row that is shown.
+/// Multipliers 0 for `count` rows, and 1 for the denial of the row that is shown.
 fn last_line(alloc: Global, count: usize) -> Result<Vec<i64>, AllocError>
     ensures { IfOk result (λ v. v.items ≡ last_line count) }
 {
@@ -27,7 +27,7 @@ struct Entry {
     lists: Vec<Vec<i64>>,
 }
 
-/// How the target is entered: from the first so many on by fall 1.
+/// How the target is entered: from number `first` on by fall 1.
 fn entry_of(
     alloc: Global,
     target: u32,
@@ -48,7 +48,7 @@ fn entry_of(
     Ok(Entry { fall: 1, lists })
 }
 
-/// The cover at so many rows with falls into the targets from the first so many on.
+/// The cover at `count` rows, with falls into the targets from number `first` on.
 pub(crate) fn falling_cover(
     alloc: Global,
     tree: &CoverTree,
@@ -102,7 +102,7 @@ fn first_past(about: &Cases, taken: u32, done: &[Piece]) -> usize
     }
 }
 
-/// The choice at so many rows with falls into the pieces that are not done.
+/// The choice at `count` rows, with falls into the pieces that are not done.
 pub(crate) fn falling_choice(
     alloc: Global,
     about: &Cases,

@@ -17,7 +17,7 @@ use tv_program::{Expr, Relation};
 /// What the comparisons among some subformulas are.
 #[derive(Drop)]
 pub(crate) enum Comparisons {
-    /// Each has rows. There are so many subformulas.
+    /// Each has rows. `size` is the number of the subformulas.
     HaveRows { size: u32 },
     /// The first one that has none, since a number of its parts or rows is too wide, is the subformula with this number.
     Wide { place: u32 },

@@ -79,7 +79,7 @@ abbrev pub instruction_fits : ℕ → ℕ → Instruction → Bool
 instruction_fits variables draws (assume c) = condition_fits variables draws c && nat_le (condition_depth c) 400
 instruction_fits variables draws (assign v e) = nat_lt v variables && expression_fits variables draws e && nat_le (expression_depth e) 400
 
--- whether an edge fits programs of so many variables and locations
+-- whether an edge fits programs of `variables` variables and `locations` locations
 abbrev pub transition_fits : ℕ → ℕ → Transition → Bool
 transition_fits variables locations e =
     nat_lt e.from locations && nat_lt e.to locations && nat_le e.draws 64 && list_all (instruction_fits variables e.draws) e.instructions

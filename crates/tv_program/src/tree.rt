@@ -1,4 +1,4 @@
-/// A whole number made of numbers, variables and draws.
+/// An integer made of numbers, variables and draws.
 ///
 /// Variables are numbered over the program, draws over their edge. A subtraction is `Minus` inside a `Sum`.
 #[derive(Drop)]
@@ -44,7 +44,7 @@ pub enum Command {
 pub struct Edge {
     pub from: u32,
     pub to: u32,
-    /// How many draws of any whole number the commands have.
+    /// How many draws of any integer the commands have.
     pub draws: u32,
     pub commands: Vec<Command>,
 }

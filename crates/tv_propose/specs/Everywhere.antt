@@ -5,7 +5,7 @@ use Rattle.tv_cases.specs.LinearCases.{CaseSystem}
 use Rattle.tv_candidates.specs.declared.candidate.Candidate.{Candidate}
 use Rattle.tv_candidates.specs.Offered.{candidate}
 
--- each row at each of m locations, of which l is the first
+-- each row at each of m locations, the first of them l
 abbrev pub from_location : ℕ → ℕ → List Linear → List Candidate
 from_location zero l rows = []
 from_location (suc m) l rows = map (candidate l) rows ++ from_location m (suc l) rows

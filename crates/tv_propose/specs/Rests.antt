@@ -12,7 +12,7 @@ abbrev pub IsFirstOf : {A : Type 0} → List A → List A → Option A → Type 
 IsFirstOf old new (Some x) = old ≡ x ∷ new
 IsFirstOf old new None = (old ≡ []) × (new ≡ [])
 
--- of a list that is told the first is given, and one that is not told stays so
+-- a list that is reported gives its first item, and one that is not reported stays so
 abbrev pub IsGiven : Option (List Candidate) → Option (List Candidate) → Option Candidate → Type 0
 IsGiven None new given = new ≡ None
 IsGiven (Some old) new given = (rest : List Candidate) × (new ≡ Some rest) × IsFirstOf old rest given

@@ -77,7 +77,7 @@ pub struct Bounds {
 }
 
 impl Bounds {
-    /// Offers at most so many candidates.
+    /// Offers at most `limit` candidates.
     pub fn new(limit: u64) -> Bounds
         ensures left { ⟦<Bounds as Proposer>⟧.left result ≡ limit }
         ensures rest { (about : CaseSystem) →

@@ -62,7 +62,7 @@ pub struct Differences {
 }
 
 impl Differences {
-    /// Offers at most so many candidates.
+    /// Offers at most `limit` candidates.
     pub fn new(limit: u64) -> Differences
         ensures left { ⟦<Differences as Proposer>⟧.left result ≡ limit }
         ensures rest { (about : CaseSystem) →

@@ -90,7 +90,7 @@ pub struct GuardRows {
 }
 
 impl GuardRows {
-    /// Offers at most so many candidates.
+    /// Offers at most `limit` candidates.
     pub fn new(limit: u64) -> GuardRows
         ensures left { ⟦<GuardRows as Proposer>⟧.left result ≡ limit }
         ensures rest { (about : CaseSystem) →

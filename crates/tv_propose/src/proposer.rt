@@ -13,13 +13,13 @@ use tv_cases::Cases;
 ///
 /// A proposer need not keep to the locations or the variables of the cases: whoever asks leaves out what does not fit.
 pub trait Proposer: Drop {
-    /// No more than so many candidates are still to come.
+    /// A bound on the number of candidates that are still to come.
     ghost left: { Self → ℕ };
 
-    /// The candidates that are still to come for these cases, where the proposer tells them.
+    /// The candidates that are still to come for these cases, where the proposer reports them.
     ghost rest: { Self → CaseSystem → Option (List Candidate) };
 
-    /// No more than so many candidates are still to come.
+    /// A bound on the number of candidates that are still to come.
     fn left(&self) -> u64
         ensures { result ≡ left self.now };
 

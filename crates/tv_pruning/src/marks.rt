@@ -61,7 +61,7 @@ impl Marks {
         count_of(&self.index, location)
     }
 
-    /// How many of the first so many pieces at the location are needed.
+    /// How many of the first `count` pieces at the location are needed.
     pub(crate) fn needed_among(&self, location: u32, count: usize) -> u32 {
         let mut needed: u32 = 0;
         for k in 0..count {

@@ -20,13 +20,13 @@ use Rattle.tv_rank.specs.Answers.{IsAnswered}
 use Rattle.tv_rank.proofs.Families.{solution_is_family}
 use Rattle.tv_rank.proofs.Wholes.{between, few_unknowns}
 
-numbered_views : (cases : List Case) (set : List ℕ) → AreNumbered (length cases) set → AreNumbered (length (case_views cases)) set
+pub numbered_views : (cases : List Case) (set : List ℕ) → AreNumbered (length cases) set → AreNumbered (length (case_views cases)) set
 numbered_views cases set h = λ k l. let e = length-map cases case_view in let a = h k l in omega (arith, e, a)
 
 pub asked_between : (q : Question) (k : ℕ) → k < many_of q → IsBetween q.locations (ways_of q k).taken
 asked_between q k l = between (case_views q.cases.now) q.known.now q.set.now q.locations (numbered_views q.cases.now q.set.now q.numbered) q.within k l
 
--- the system that is built is that of the question, of at most so many entries
+-- the system that is built is that of the question
 pub is_asked : (q : Question) (s : Equations) (us : List Unknown) (ls : List Line) → s ≡ system_over (ways_of q) q.falling us ls → us ≡ unknowns_of q → ls ≡ lines (ways_of q) (many_of q) q.falling q.variables → s ≡ system_asked q
 is_asked q s us ls e a b = e ∙ (λ i. system_over (ways_of q) q.falling (a i) (b i))
 

@@ -77,7 +77,7 @@ over_opposite n x p = over-neg n (λ c. neg_ℤ (x c) *ℤ p c) (λ c. x c *ℤ 
 pub over_none : (n : ℕ) (p : Option ℕ → ℤ) → over n (λ c. pos 0 *ℤ p c) ≡ pos 0
 over_none n p = over-zero n (λ c. pos 0 *ℤ p c) (λ c l. omega (arith, ints))
 
-untouched : (ways : ℕ → Way) (many k l : ℕ) → touches ways many l ≡ false → k < many → ((ways k).taken.from == l || (ways k).taken.to == l) ≡ false
+pub untouched : (ways : ℕ → Way) (many k l : ℕ) → touches ways many l ≡ false → k < many → ((ways k).taken.from == l || (ways k).taken.to == l) ≡ false
 untouched ways zero k l e h = absurd (omega (arith, h))
 untouched ways (suc m) k l e h = elim (same_or_below m k h) [
   | inl s ↦ ap (λ z. (ways z).taken.from == l || (ways z).taken.to == l) s ∙ (or_parts (touches ways m l) ((ways m).taken.from == l || (ways m).taken.to == l) e).1

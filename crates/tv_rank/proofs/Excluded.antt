@@ -57,18 +57,18 @@ ray a b h = elim (by_sign a) [
 one-ray : (r x p n : ℤ) → r *ℤ (n *ℤ x +ℤ p) ≡ n *ℤ (r *ℤ x) +ℤ r *ℤ p
 one-ray r x p n = distribute_z r (n *ℤ x) p ∙ ap (λ z. z +ℤ r *ℤ p) (mul_swap r n x)
 
-value-ray : (m : ℕ) (row x p : Option ℕ → ℤ) (n : ℤ) → value m row (λ c. n *ℤ x c +ℤ p c) ≡ n *ℤ value m row x +ℤ value m row p
+pub value-ray : (m : ℕ) (row x p : Option ℕ → ℤ) (n : ℤ) → value m row (λ c. n *ℤ x c +ℤ p c) ≡ n *ℤ value m row x +ℤ value m row p
 value-ray m row x p n =
     over-same m (λ c. row c *ℤ (n *ℤ x c +ℤ p c)) (λ c. n *ℤ (row c *ℤ x c) +ℤ row c *ℤ p c) (λ c l. one-ray (row c) (x c) (p c) n)
     ∙ over-add m (λ c. n *ℤ (row c *ℤ x c)) (λ c. row c *ℤ p c)
     ∙ ap (λ z. z +ℤ value m row p) (over-times m n (λ c. row c *ℤ x c))
 
-before-ray : (v : ℕ) (f : ℕ → Option ℕ → ℤ) (w : Way) (x p : Option ℕ → ℤ) (n : ℤ) → before_at v f w (λ c. n *ℤ x c +ℤ p c) ≡ n *ℤ before_at v f w x +ℤ before_at v f w p
+pub before-ray : (v : ℕ) (f : ℕ → Option ℕ → ℤ) (w : Way) (x p : Option ℕ → ℤ) (n : ℤ) → before_at v f w (λ c. n *ℤ x c +ℤ p c) ≡ n *ℤ before_at v f w x +ℤ before_at v f w p
 before-ray v f w x p n =
     over-same v (λ m. f w.taken.from m *ℤ there_before v w (λ c. n *ℤ x c +ℤ p c) m) (λ m. f w.taken.from m *ℤ (n *ℤ there_before v w x m +ℤ there_before v w p m)) (λ m l. ap (λ z. f w.taken.from m *ℤ z) (value-ray (width v w) (unit_at m) x p n))
     ∙ value-ray v (f w.taken.from) (there_before v w x) (there_before v w p) n
 
-after-ray : (v : ℕ) (f : ℕ → Option ℕ → ℤ) (w : Way) (x p : Option ℕ → ℤ) (n : ℤ) → after_at v f w (λ c. n *ℤ x c +ℤ p c) ≡ n *ℤ after_at v f w x +ℤ after_at v f w p
+pub after-ray : (v : ℕ) (f : ℕ → Option ℕ → ℤ) (w : Way) (x p : Option ℕ → ℤ) (n : ℤ) → after_at v f w (λ c. n *ℤ x c +ℤ p c) ≡ n *ℤ after_at v f w x +ℤ after_at v f w p
 after-ray v f w x p n =
     over-same v (λ m. f w.taken.to m *ℤ there_after v w (λ c. n *ℤ x c +ℤ p c) m) (λ m. f w.taken.to m *ℤ (n *ℤ there_after v w x m +ℤ there_after v w p m)) (λ m l. ap (λ z. f w.taken.to m *ℤ z) (value-ray (width v w) (after w.taken m) x p n))
     ∙ value-ray v (f w.taken.to) (there_after v w x) (there_after v w p) n
@@ -81,7 +81,7 @@ change-ray v f w x p n =
     omega (arith, ints, a, b, d)
 
 -- a ray beyond a point leads to points
-beyond : (v : ℕ) (w : Way) (x p : Option ℕ → ℤ) → Meets v w x → x None ≡ pos 0 → IsPoint v w p → (n : ℤ) → pos 0 ≤ℤ n → IsPoint v w (λ c. n *ℤ x c +ℤ p c)
+pub beyond : (v : ℕ) (w : Way) (x p : Option ℕ → ℤ) → Meets v w x → x None ≡ pos 0 → IsPoint v w p → (n : ℤ) → pos 0 ≤ℤ n → IsPoint v w (λ c. n *ℤ x c +ℤ p c)
 beyond v w x p h e q n l = record {
   meets = λ i i_in.
       let u = not_above n (value (width v w) (row_of w i) x) l (h i i_in) in
@@ -91,7 +91,7 @@ beyond v w x p h e q n l = record {
   positive = (let z = times_zero n (x None) e in let m = q.positive in omega (arith, ints, z, m));
 }
 
-zero_or_above : (z : ℤ) → pos 0 ≤ℤ z → (z ≡ pos 0) ⊎ (pos 0 <ℤ z)
+pub zero_or_above : (z : ℤ) → pos 0 ≤ℤ z → (z ≡ pos 0) ⊎ (pos 0 <ℤ z)
 zero_or_above z h = elim (by_sign z) [ inl l ↦ absurd (omega (arith, ints)) | inr w ↦ w ]
 
 module _ (v many : ℕ) (ways : ℕ → Way) (falling : ℕ) (falling_in : falling < many) (f : ℕ → Option ℕ → ℤ) (ranks : RanksAt v many ways falling f) where

@@ -51,7 +51,7 @@ touched_to ways (suc m) k h = elim (same_or_below m k h) [
   | inr b ↦ or_left (touches ways m (ways k).taken.to) ((ways m).taken.from == (ways k).taken.to || (ways m).taken.to == (ways k).taken.to) (touched_to ways m k b)
 ]
 
-unit_small : (m c : Option ℕ) → unsigned_abs (unit_at m c) ≤ 1
+pub unit_small : (m c : Option ℕ) → unsigned_abs (unit_at m c) ≤ 1
 unit_small None None = omega arith
 unit_small None (Some j) = omega arith
 unit_small (Some w) None = omega arith
@@ -61,7 +61,7 @@ unit_small (Some w) (Some j) = by_test (w == j)
     by_test true = omega arith
     by_test false = omega arith
 
-if_small : (b : Bool) (z : ℤ) → unsigned_abs z ≤ 1 → unsigned_abs (if b then z else pos 0) ≤ 1
+pub if_small : (b : Bool) (z : ℤ) → unsigned_abs z ≤ 1 → unsigned_abs (if b then z else pos 0) ≤ 1
 if_small true z h = h
 if_small false z h = omega arith
 

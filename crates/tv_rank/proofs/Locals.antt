@@ -12,29 +12,29 @@ use Rattle.tv_rank.specs.RankingSystem.{term_unknowns, terms_below}
 use Rattle.tv_rank.specs.Reading.{term_read, read_at, term_there, terms_read}
 use Rattle.tv_rank.specs.Rankings.{local_term}
 
-row_if : (b : Bool) (x y : Linear) → b ≡ true → (if b then x else y) ≡ x
+pub row_if : (b : Bool) (x y : Linear) → b ≡ true → (if b then x else y) ≡ x
 row_if true x y e = refl
 row_if false x y e = absurd cc
 
-row_else : (b : Bool) (x y : Linear) → b ≡ false → (if b then x else y) ≡ y
+pub row_else : (b : Bool) (x y : Linear) → b ≡ false → (if b then x else y) ≡ y
 row_else true x y e = absurd cc
 row_else false x y e = refl
 
 -- ---- the term at a location
 -- none of the terms stands at the location
-abbrev Nowhere : ℕ → List LocalTerm → Type 0
+abbrev pub Nowhere : ℕ → List LocalTerm → Type 0
 Nowhere l [] = Unit {0}
 Nowhere l (t ∷ ts) = (t.location ≡ l → ⊥) × Nowhere l ts
 
-nowhere_both : (l : ℕ) (ts us : List LocalTerm) → Nowhere l ts → Nowhere l us → Nowhere l (ts ++ us)
+pub nowhere_both : (l : ℕ) (ts us : List LocalTerm) → Nowhere l ts → Nowhere l us → Nowhere l (ts ++ us)
 nowhere_both l [] us h g = g
 nowhere_both l (t ∷ ts) us h g = (h.0, nowhere_both l ts us h.1 g)
 
-nowhere_left : (v l : ℕ) (ts us : List LocalTerm) → Nowhere l ts → local_term v (ts ++ us) l ≡ local_term v us l
+pub nowhere_left : (v l : ℕ) (ts us : List LocalTerm) → Nowhere l ts → local_term v (ts ++ us) l ≡ local_term v us l
 nowhere_left v l [] us h = refl
 nowhere_left v l (t ∷ ts) us h = row_else (t.location == l) t.row (local_term v (ts ++ us) l) (ne_eqb t.location l h.0) ∙ nowhere_left v l ts us h.1
 
-nowhere_right : (v l : ℕ) (ts us : List LocalTerm) → Nowhere l us → local_term v (ts ++ us) l ≡ local_term v ts l
+pub nowhere_right : (v l : ℕ) (ts us : List LocalTerm) → Nowhere l us → local_term v (ts ++ us) l ≡ local_term v ts l
 nowhere_right v l [] us h = none us h
   where
     none : (us : List LocalTerm) → Nowhere l us → local_term v us l ≡ constant_row v (pos 0)

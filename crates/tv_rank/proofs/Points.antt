@@ -127,10 +127,10 @@ ranks_at v many ways falling terms wide h = record {
 }
 
 -- and the other way round
-before_pointed : (v : ℕ) (terms : List Linear) (w : Way) (xs : List ℤ) (z : ℤ) → columns (term_at terms w.taken.from) ≤ v → length xs ≡ width v w → value_before terms w xs z ≡ before_at v (numbers_at terms) w (point_of xs z)
+pub before_pointed : (v : ℕ) (terms : List Linear) (w : Way) (xs : List ℤ) (z : ℤ) → columns (term_at terms w.taken.from) ≤ v → length xs ≡ width v w → value_before terms w xs z ≡ before_at v (numbers_at terms) w (point_of xs z)
 before_pointed v terms w xs z h e = subst (λ ys. value_before terms w ys z ≡ before_at v (numbers_at terms) w (point_of xs z)) (table_of (width v w) xs e) (before_listed v terms w (point_of xs z) h)
 
-after_pointed : (v : ℕ) (terms : List Linear) (w : Way) (xs : List ℤ) (z : ℤ) → length xs ≡ width v w → value_after v terms w xs z ≡ after_at v (numbers_at terms) w (point_of xs z)
+pub after_pointed : (v : ℕ) (terms : List Linear) (w : Way) (xs : List ℤ) (z : ℤ) → length xs ≡ width v w → value_after v terms w xs z ≡ after_at v (numbers_at terms) w (point_of xs z)
 after_pointed v terms w xs z e = subst (λ ys. value_after v terms w ys z ≡ after_at v (numbers_at terms) w (point_of xs z)) (table_of (width v w) xs e) (after_listed v terms w (point_of xs z))
 
 pub ranks_listed : (v many : ℕ) (ways : ℕ → Way) (falling : ℕ) (terms : List Linear) → ((l : ℕ) → columns (term_at terms l) ≤ v) → RanksAt v many ways falling (numbers_at terms) → Ranks v many ways falling terms
@@ -151,7 +151,7 @@ ranks_listed v many ways falling terms wide h = record {
       omega (arith, ints, g, a, b);
 }
 
-terms_past : (ts : List Linear) (l : ℕ) → length ts ≤ l → columns (term_at ts l) ≡ 0
+pub terms_past : (ts : List Linear) (l : ℕ) → length ts ≤ l → columns (term_at ts l) ≡ 0
 terms_past [] l k = refl
 terms_past (t ∷ ts) zero k = absurd (omega (arith, k))
 terms_past (t ∷ ts) (suc l) k = terms_past ts l (omega (arith, k))

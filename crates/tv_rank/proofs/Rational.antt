@@ -36,22 +36,22 @@ use Rattle.tv_simplex.proofs.GoesOn.{total-not_above}
 turned : (a b c : ℤ) → (a *ℤ b) *ℤ c ≡ b *ℤ (a *ℤ c)
 turned a b c = ap (λ z. z *ℤ c) (*ℤ_comm a b) ∙ mul_assoc_z b a c
 
-total_by : (m : ℕ) (f : ℕ → ℤ) (z : ℤ) → total m f *ℤ z ≡ total m (λ i. f i *ℤ z)
+pub total_by : (m : ℕ) (f : ℕ → ℤ) (z : ℤ) → total m f *ℤ z ≡ total m (λ i. f i *ℤ z)
 total_by m f z = *ℤ_comm (total m f) z ∙ sym (total-times m z f) ∙ total-same m (λ i. z *ℤ f i) (λ i. f i *ℤ z) (λ i l. *ℤ_comm z (f i))
 
 -- rows, each times a number, at a point
-rows_there : (n m : ℕ) (y : ℕ → ℤ) (rows : ℕ → Option ℕ → ℤ) (p : Option ℕ → ℤ) → over n (λ c. total m (λ i. rows i c *ℤ y i) *ℤ p c) ≡ total m (λ i. y i *ℤ value n (rows i) p)
+pub rows_there : (n m : ℕ) (y : ℕ → ℤ) (rows : ℕ → Option ℕ → ℤ) (p : Option ℕ → ℤ) → over n (λ c. total m (λ i. rows i c *ℤ y i) *ℤ p c) ≡ total m (λ i. y i *ℤ value n (rows i) p)
 rows_there n m y rows p =
     over-same n (λ c. total m (λ i. rows i c *ℤ y i) *ℤ p c) (λ c. total m (λ i. y i *ℤ (rows i c *ℤ p c))) (λ c l. total_by m (λ i. rows i c *ℤ y i) (p c) ∙ total-same m (λ i. (rows i c *ℤ y i) *ℤ p c) (λ i. y i *ℤ (rows i c *ℤ p c)) (λ i k. turned (rows i c) (y i) (p c)))
     ∙ over-total n m (λ c i. y i *ℤ (rows i c *ℤ p c))
     ∙ total-same m (λ i. over n (λ c. y i *ℤ (rows i c *ℤ p c))) (λ i. y i *ℤ value n (rows i) p) (λ i l. over-times n (y i) (λ c. rows i c *ℤ p c))
 
 -- where the point meets the rows and no number is negative, they add up to at most 0
-rows_low : (n m : ℕ) (y : ℕ → ℤ) (rows : ℕ → Option ℕ → ℤ) (p : Option ℕ → ℤ) → ((i : ℕ) → i < m → pos 0 ≤ℤ y i) → ((i : ℕ) → i < m → value n (rows i) p ≤ℤ pos 0) → over n (λ c. total m (λ i. rows i c *ℤ y i) *ℤ p c) ≤ℤ pos 0
+pub rows_low : (n m : ℕ) (y : ℕ → ℤ) (rows : ℕ → Option ℕ → ℤ) (p : Option ℕ → ℤ) → ((i : ℕ) → i < m → pos 0 ≤ℤ y i) → ((i : ℕ) → i < m → value n (rows i) p ≤ℤ pos 0) → over n (λ c. total m (λ i. rows i c *ℤ y i) *ℤ p c) ≤ℤ pos 0
 rows_low n m y rows p positive meets = subst (λ z. z ≤ℤ pos 0) (sym (rows_there n m y rows p)) (total-not_above m (λ i. y i *ℤ value n (rows i) p) (λ i l. not_above (y i) (value n (rows i) p) (positive i l) (meets i l)))
 
 -- the numbers of a term, each by what it stands before, at a point
-numbers_there : (n v : ℕ) (a : Option ℕ → Option ℕ → ℤ) (f p : Option ℕ → ℤ) → over n (λ c. over v (λ m. a m c *ℤ f m) *ℤ p c) ≡ over v (λ m. f m *ℤ value n (a m) p)
+pub numbers_there : (n v : ℕ) (a : Option ℕ → Option ℕ → ℤ) (f p : Option ℕ → ℤ) → over n (λ c. over v (λ m. a m c *ℤ f m) *ℤ p c) ≡ over v (λ m. f m *ℤ value n (a m) p)
 numbers_there n v a f p =
     let first = rows_there n v (λ j. f (Some j)) (λ j. a (Some j)) p in
     let last = over-same n (λ c. (a None c *ℤ f None) *ℤ p c) (λ c. f None *ℤ (a None c *ℤ p c)) (λ c l. turned (a None c) (f None) (p c)) ∙ over-times n (f None) (λ c. a None c *ℤ p c) in
@@ -60,7 +60,7 @@ numbers_there n v a f p =
     omega (arith, ints, first, last, apart)
 
 -- the left side of an identity less its right side at a point
-sides_there : (n : ℕ) (a b u r : Option ℕ → ℤ) (s : ℤ) (p : Option ℕ → ℤ) → over n (λ c. ((a c -ℤ b c) +ℤ (u c *ℤ s -ℤ r c)) *ℤ p c) ≡ (over n (λ c. a c *ℤ p c) -ℤ over n (λ c. b c *ℤ p c)) +ℤ (s *ℤ over n (λ c. u c *ℤ p c) -ℤ over n (λ c. r c *ℤ p c))
+pub sides_there : (n : ℕ) (a b u r : Option ℕ → ℤ) (s : ℤ) (p : Option ℕ → ℤ) → over n (λ c. ((a c -ℤ b c) +ℤ (u c *ℤ s -ℤ r c)) *ℤ p c) ≡ (over n (λ c. a c *ℤ p c) -ℤ over n (λ c. b c *ℤ p c)) +ℤ (s *ℤ over n (λ c. u c *ℤ p c) -ℤ over n (λ c. r c *ℤ p c))
 sides_there n a b u r s p =
     let spread = over-same n (λ c. ((a c -ℤ b c) +ℤ (u c *ℤ s -ℤ r c)) *ℤ p c) (λ c. (a c *ℤ p c -ℤ b c *ℤ p c) +ℤ (s *ℤ (u c *ℤ p c) -ℤ r c *ℤ p c)) (λ c l. one (a c) (b c) (u c) (r c) (p c)) in
     let apart = over-add n (λ c. a c *ℤ p c -ℤ b c *ℤ p c) (λ c. s *ℤ (u c *ℤ p c) -ℤ r c *ℤ p c) in
@@ -78,7 +78,7 @@ sides_there n a b u r s p =
         omega (arith, ints, whole, first, second, slack)
 
 -- a right side that has a constant alone
-right_there : (n : ℕ) (scale : ℤ) (g p : Option ℕ → ℤ) → ((j : ℕ) → g (Some j) ≡ pos 0) → over n (λ c. (scale *ℤ g c) *ℤ p c) ≡ (scale *ℤ g None) *ℤ p None
+pub right_there : (n : ℕ) (scale : ℤ) (g p : Option ℕ → ℤ) → ((j : ℕ) → g (Some j) ≡ pos 0) → over n (λ c. (scale *ℤ g c) *ℤ p c) ≡ (scale *ℤ g None) *ℤ p None
 right_there n scale g p h =
     let z = total-zero n (λ j. (scale *ℤ g (Some j)) *ℤ p (Some j)) (λ j l. ap (λ y. (scale *ℤ y) *ℤ p (Some j)) (h j) ∙ zero (p (Some j))) in
     omega (arith, ints, z)

@@ -42,13 +42,13 @@ get-read xs s (suc n) i h = elim (same_or_below n i h) [
 ]
 
 -- ---- numbers that are held
-small_product : (a b : ℤ) → unsigned_abs a < 2 ^ 62 → unsigned_abs b < 2 ^ 41 → unsigned_abs (a *ℤ b) < 2 ^ 103
+pub small_product : (a b : ℤ) → unsigned_abs a < 2 ^ 62 → unsigned_abs b < 2 ^ 41 → unsigned_abs (a *ℤ b) < 2 ^ 103
 small_product a b h g = (let e = unsigned_abs-mul a b in let f = less_product (unsigned_abs a) (unsigned_abs b) h g in omega (arith, e, f))
   where
     less_product : (x y : ℕ) → x < 2 ^ 62 → y < 2 ^ 41 → x * y < 2 ^ 103
     less_product x y u v = (let w : x * y ≤ 2 ^ 62 * y = scaled_up x (2 ^ 62) y (omega (arith, u)) in omega (arith, w, v))
 
-sum_below : (a b : ℤ) (n : ℕ) → unsigned_abs a ≤ n * 2 ^ 103 → unsigned_abs b < 2 ^ 103 → unsigned_abs (a +ℤ b) ≤ (n + 1) * 2 ^ 103
+pub sum_below : (a b : ℤ) (n : ℕ) → unsigned_abs a ≤ n * 2 ^ 103 → unsigned_abs b < 2 ^ 103 → unsigned_abs (a +ℤ b) ≤ (n + 1) * 2 ^ 103
 sum_below a b n h g = omega (arith, ints, h, g)
 
 -- the sum of the places of a composed row

@@ -40,7 +40,7 @@ get-differences xs s (suc v) j h = elim (same_or_below v j h) [
   | inr b ↦ get_or-left (differences xs s v) (difference xs s v ∷ []) j (pos 0) (let l = length-differences xs s v in omega (arith, b, l)) ∙ get-differences xs s v j b
 ]
 
-pair_product : (x a b : ℤ) → x *ℤ a +ℤ neg_ℤ x *ℤ b ≡ x *ℤ (a -ℤ b)
+pub pair_product : (x a b : ℤ) → x *ℤ a +ℤ neg_ℤ x *ℤ b ≡ x *ℤ (a -ℤ b)
 pair_product x a b = (let t = times_less x a b in let n = neg_times_z x b in omega (arith, ints, t, n))
 
 module _ (g : Unknown → ℤ) (l : ℕ) (x : Option ℕ → ℤ) (positive : (m : Option ℕ) → g (Positive l m) ≡ x m) (negative : (m : Option ℕ) → g (Negative l m) ≡ neg_ℤ (x m)) (xs : List ℤ) (s : ℕ) where
@@ -69,7 +69,7 @@ module _ (g : Unknown → ℤ) (l : ℕ) (x : Option ℕ → ℤ) (positive : (m
       let r = total-same v (λ j. x (Some j) *ℤ difference xs s j) (λ j. x (Some j) *ℤ number (Some j) (term_read v xs s)) (λ j k. ap (λ z. x (Some j) *ℤ z) (sym (get-differences xs s v j k))) in
       omega (arith, ints, h, a, p, r)
 
-constant-numbers : (v : ℕ) (m : Option ℕ) → number m (constant_row v (pos 0)) ≡ pos 0
+pub constant-numbers : (v : ℕ) (m : Option ℕ) → number m (constant_row v (pos 0)) ≡ pos 0
 constant-numbers v None = refl
 constant-numbers v (Some j) = get_or-zeros v j
 
@@ -170,7 +170,7 @@ steps-sum g ways (suc m) xs s =
     omega (arith, ints, h, a)
 
 -- the term of one location out of the sum over all
-one_term : (v n t : ℕ) (a : Option ℕ → ℤ) (f : ℕ → Option ℕ → ℤ) → t < n → total n (λ l. over v (λ m. (if t == l then a m else pos 0) *ℤ f l m)) ≡ over v (λ m. a m *ℤ f t m)
+pub one_term : (v n t : ℕ) (a : Option ℕ → ℤ) (f : ℕ → Option ℕ → ℤ) → t < n → total n (λ l. over v (λ m. (if t == l then a m else pos 0) *ℤ f l m)) ≡ over v (λ m. a m *ℤ f t m)
 one_term v n t a f h = total-same n (λ l. over v (λ m. (if t == l then a m else pos 0) *ℤ f l m)) (λ l. if t == l then over v (λ m. a m *ℤ f l m) else pos 0) (λ l k. over_put (t == l) v a (f l)) ∙ picked n t (λ l. over v (λ m. a m *ℤ f l m)) h
 
 module _ (v locations many : ℕ) (ways : ℕ → Way) (falling : ℕ) (falling_in : falling < many) (xs : List ℤ) where

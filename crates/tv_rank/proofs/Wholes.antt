@@ -33,7 +33,7 @@ steps_placed : (many v : ℕ) (ways : ℕ → Way) (n : ℕ) → n ≤ many → 
 steps_placed many v ways zero h = tt
 steps_placed many v ways (suc n) h = all_both (Placed many) (step_lines ways v n) (identity_lines v (Step n) (ways n)) (steps_placed many v ways n (omega (arith, h))) (identity_placed many v (Step n) (ways n) (omega (arith, h)))
 
-all_listed : {A : Type 0} (P : A → Type 0) (xs : List A) → AllByRecursion P xs → All P xs
+pub all_listed : {A : Type 0} (P : A → Type 0) (xs : List A) → AllByRecursion P xs → All P xs
 all_listed P [] h = All-nil P
 all_listed P (x ∷ xs) h = All-cons P x xs h.0 (all_listed P xs h.1)
 
@@ -47,14 +47,14 @@ some_lines ways many falling v = (let a = length-append (step_lines ways v many)
 some_unknowns : (ways : ℕ → Way) (many falling v locations : ℕ) → 1 ≤ length (unknowns ways many falling v locations)
 some_unknowns ways many falling v locations = (let a = length-append (terms_below ways many v locations ++ steps_below ways many) (identity_unknowns Bound (ways falling)) in let b = length-identity Bound (ways falling) in omega (arith, a, b))
 
-fewer : (a b m : ℕ) → 1 ≤ b → a * b ≤ m → a ≤ m
+pub fewer : (a b m : ℕ) → 1 ≤ b → a * b ≤ m → a ≤ m
 fewer a zero m l h = absurd (omega (arith, l))
 fewer a (suc b) m l h = (let e = more a b in omega (arith, e, h))
   where
     more : (a b : ℕ) → a * suc b ≡ a + a * b
     more a b = grind arith
 
-fewer_right : (a b m : ℕ) → 1 ≤ a → a * b ≤ m → b ≤ m
+pub fewer_right : (a b m : ℕ) → 1 ≤ a → a * b ≤ m → b ≤ m
 fewer_right zero b m l h = absurd (omega (arith, l))
 fewer_right (suc a) b m l h = (let e = suc-times a b in omega (arith, e, h))
 

@@ -5,7 +5,7 @@ use Rattle.tv_rank.specs.declared.unknown.Identity.{Identity}
 use Rattle.tv_rank.specs.declared.unknown.Identity.TheVariants.{Step, Bound}
 use Rattle.tv_cases.specs.LinearCases.{LinearCase}
 
--- each number is that of one of so many cases
+-- each number is that of one of `many` cases
 abbrev pub AreNumbered : ℕ → List ℕ → Type 0
 AreNumbered many set = (k : ℕ) → k < length set → get_or set k 0 < many
 
@@ -13,7 +13,7 @@ AreNumbered many set = (k : ℕ) → k < length set → get_or set k 0 < many
 abbrev pub AreStarted : List LinearCase → List Piece → Type 0
 AreStarted cases known = All (λ c. c.from < length known) cases
 
--- the identity speaks of one of so many places
+-- the identity speaks of one of `many` places
 abbrev pub IsPlaced : ℕ → Identity → Type 0
 IsPlaced many (Step k) = k < many
 IsPlaced many Bound = Unit {0}
@@ -26,7 +26,7 @@ AreParts xs = (j : ℕ) → j < length xs → IsShort (get_or xs j (pos 0)) × (
 abbrev pub lists : {A : Type 0} → List (Vec ℤ A) → List (List ℤ)
 lists vs = map (λ v. v.items) vs
 
--- the case leads between so many locations
+-- the case leads from one of `locations` locations to one of them
 pub record IsBetween (locations : ℕ) (c : LinearCase) : Type 0 where
   pub leaves : c.from < locations
   pub enters : c.to < locations

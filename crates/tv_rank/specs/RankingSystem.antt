@@ -135,7 +135,7 @@ system_over ways falling us ls = record {
   right = map (λ line. right_of falling line.identity line.column) ls;
 }
 
--- The ranking system of the first ways over v variables and so many locations, of which the one at a place falls. For each
+-- The ranking system of the first `many` ways over v variables and `locations` locations. The way at place `falling` falls. For each
 -- way the term where it ends, less the term where it starts, and 1 more for the falling way, is the sum of the rows that are
 -- met, each times a multiplier, less a slack; and for the falling way the opposite of the term where it starts is such a
 -- sum. All unknowns are at least 0.

@@ -15,11 +15,11 @@ use Rattle.tv_rank.specs.Answers.{IsFound, GivesFound, IsRefusal, RefusesLarge, 
 abbrev pub PointsOf : CaseSystem → List Piece → List ℕ → Type 0
 PointsOf about known set = (k : ℕ) → k < length set → HasPoint about.variables (way_at about.cases known set k)
 
--- the ranking system of a set of cases, of which the one at a place falls
+-- the ranking system of a set of cases, where the one at `place` falls
 abbrev pub system_of_set : CaseSystem → List Piece → List ℕ → ℕ → Equations
 system_of_set about known set place = ranking_system (way_at about.cases known set) (length set) place about.variables about.locations
 
--- what a set of cases, of which the one at a place falls, is answered under the rows that are known at the locations: a family or a
+-- what a set of cases, where the one at `place` falls, is answered under the rows that are known at the locations: a family or a
 -- barrier, which the last basis of the chain of the ranking system gives
 pub record IsRankedAt (about : CaseSystem) (known : List Piece) (set : List ℕ) (place : ℕ) (f : Found) : Type 0 where
   pub found : IsFound about.variables about.locations (length set) (way_at about.cases known set) place f

@@ -18,7 +18,7 @@ no_case = record { from = 0; to = 0; draws = 0; guards = []; updates = [] }
 abbrev pub case_at : List LinearCase → ℕ → LinearCase
 case_at cases k = get_or cases k no_case
 
--- the rows that are known at a location, of which each has one piece
+-- The rows that are known at a location. Each location has one piece.
 abbrev pub rows_at : List Piece → ℕ → List Linear
 rows_at known l = get_or (map (λ p. p.poly.rows.items) known) l []
 

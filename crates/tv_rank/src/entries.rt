@@ -29,7 +29,7 @@ fn number_at(row: &Row, column: Option<usize>) -> i128
 }
 
 /// 1 where the two are the same.
-fn unit_at(number: Option<usize>, column: Option<usize>) -> i128
+pub fn unit_at(number: Option<usize>, column: Option<usize>) -> i128
     ensures is { result ≡ spec_unit number column }
     ensures narrow { IsWithin 62 result }
 {
@@ -64,7 +64,8 @@ fn after(case: &Case, number: Option<usize>, column: Option<usize>) -> i128
     }
 }
 
-fn entered(case: &Case, location: u32, number: Option<usize>, column: Option<usize>) -> i128
+/// How often a number of the term at a location stands in a column after the case.
+pub fn entered(case: &Case, location: u32, number: Option<usize>, column: Option<usize>) -> i128
     ensures is { result ≡ spec_entered (case_view case.now) location number column }
     ensures narrow { IsWithin 62 result }
 {
@@ -75,7 +76,8 @@ fn entered(case: &Case, location: u32, number: Option<usize>, column: Option<usi
     }
 }
 
-fn left(case: &Case, location: u32, number: Option<usize>, column: Option<usize>) -> i128
+/// How often it stands there before the case.
+pub fn left(case: &Case, location: u32, number: Option<usize>, column: Option<usize>) -> i128
     ensures is { result ≡ spec_left (case_view case.now) location number column }
     ensures narrow { IsWithin 62 result }
 {
@@ -97,7 +99,7 @@ fn same(identity: Identity, other: Identity) -> bool
 }
 
 /// The number of a row that is met, in a column.
-fn met_number(known: &[Row], guards: &[Row], row: usize, column: Option<usize>) -> i128
+pub fn met_number(known: &[Row], guards: &[Row], row: usize, column: Option<usize>) -> i128
     ensures is { result ≡ number column (get_or (known.now ++ guards.now) row (linear [] (pos 0))) }
     ensures narrow { IsWithin 62 result }
 {
@@ -121,7 +123,8 @@ pub fn place_of(identity: Identity, falling: usize) -> usize
     }
 }
 
-fn opposite(number: i128) -> i128
+/// The number of the other sign.
+pub fn opposite(number: i128) -> i128
     requires { unsigned_abs number < 2 ^ 64 }
     ensures is { result ≡ neg_ℤ number }
     ensures small { unsigned_abs result < 2 ^ 64 }

@@ -13,6 +13,12 @@ mod span;
 mod system;
 mod unknown;
 
+pub use entries::{entered, left, met_number, opposite, unit_at};
 pub use found::{Found, LocalTerm};
+pub use listing::touches;
 pub use name::Name;
+pub use question::Question;
 pub use ranking::{rank_place, weak_rank};
+pub use reading::{line_of, term_of};
+pub use span::{Span, span_of};
+pub use system::is_large;

@@ -88,7 +88,7 @@ pub fn unknown_list(alloc: Global, asked: &Question) -> Result<Vec<Unknown>, All
     Ok(items)
 }
 
-/// Puts the rows of an identity over so many columns at the end of the list.
+/// Puts the rows of an identity over `columns` columns at the end of the list.
 fn push_lines(items: &mut Vec<Line>, identity: Identity, columns: usize) -> Result<(), AllocError>
     ensures { IfOk result (λ _. items.new.items ≡ items.old.items ++ lines_over identity columns) }
 {

@@ -8,7 +8,7 @@ ghost use Rattle.tv_rank.specs.Ways.{rows_at as spec_rows};
 use tv_cases::Case;
 use tv_linear::{Piece, Row};
 
-/// Whether terms rank the cases of a set, of which one is to fall, where rows are known at the locations.
+/// Whether terms rank the cases of a set. One of the cases is to fall, and rows are known at the locations.
 #[derive(Drop)]
 pub struct Question<'a> {
     pub cases: &'a [Case],

@@ -51,7 +51,12 @@ fn push_difference(
 }
 
 /// The term whose pairs stand from a place on.
-fn term_of(alloc: Global, values: &[i128], start: usize, variables: u32) -> Result<Row, AllocError>
+pub fn term_of(
+    alloc: Global,
+    values: &[i128],
+    start: usize,
+    variables: u32,
+) -> Result<Row, AllocError>
     requires bounded { variables < 2 ^ 32 - 1 }
     requires inside { start + 2 * variables + 1 < length values.now }
     requires parts { AreParts values.now }
@@ -65,7 +70,7 @@ fn term_of(alloc: Global, values: &[i128], start: usize, variables: u32) -> Resu
 }
 
 /// The multipliers that stand from a place on, and 1 for the denial of what they show.
-fn line_of(
+pub fn line_of(
     alloc: Global,
     values: &[i128],
     start: usize,
@@ -83,7 +88,7 @@ fn line_of(
     Ok(multipliers)
 }
 
-/// Puts the term at a location where a case of the set starts or ends at the end of the list, and tells the place after its pairs.
+/// Puts the term at a location where a case of the set starts or ends at the end of the list, and returns the place after its pairs.
 fn push_term(
     terms: &mut Vec<LocalTerm>,
     alloc: Global,
@@ -126,7 +131,7 @@ pub fn read_terms(
     Ok((terms, place))
 }
 
-/// Puts the multipliers of the case at a place of the set at the end of the list, and tells the place after its slack.
+/// Puts the multipliers of the case at a place of the set at the end of the list, and returns the place after its slack.
 fn push_line(
     lines: &mut Vec<Vec<i64>>,
     alloc: Global,

@@ -63,7 +63,7 @@ pub fn right_list(alloc: Global, falling: usize, lines: &[Line]) -> Result<Vec<i
     Ok(numbers)
 }
 
-/// Whether a system of so many rows and columns has more than 4,000,000 entries.
+/// Whether a system of `rows` rows and `columns` columns has more than 4,000,000 entries.
 pub fn is_large(rows: usize, columns: usize) -> bool
     ensures { IsTrue result ↔ 4000000 < rows * columns }
 {

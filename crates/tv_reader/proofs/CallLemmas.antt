@@ -1,4 +1,4 @@
--- What a reader's calls of its reading tell.
+-- What a reader's calls of its reading show.
 use Rattle.std.proofs.Common.{◌≡◌, ℕ, ◌-◌, Bool, true, false, cond, List, Result, Ok, Err, ap, subst, ◌∙◌}
 use Rattle.tv_program.specs.Words.{Word}
 use Rattle.tv_program.specs.declared.tree.Expr.{Expr}

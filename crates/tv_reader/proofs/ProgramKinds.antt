@@ -142,7 +142,7 @@ unfolding marks_from
 marks_known v behind_colon d [] e = cc
 marks_known v behind_colon d (x ∷ xs) e = mark_known v behind_colon d x.kind x.word e
 
--- ---- what is told
+-- ---- what is reported
 
 pub known_names : (v : Vocabulary) (behind_colon : Bool) (d : ℕ) (xs : List Lexeme) (ms : List Mark) (n : ℕ) (e : Reason) → Unless e ((program_at every n).read ms ≡ fault (kind_of e) (marks_from v behind_colon d xs)) → e ≢ reasons.UnknownName
 known_names v behind_colon d xs ms n e reads is =

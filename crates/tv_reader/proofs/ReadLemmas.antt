@@ -62,7 +62,7 @@ module _ {Y : Type 0} (l : Grammar Y) (exact : Exact l) (plainly : (d : l.Of) �
         read = ap l.read t.mine ∙ elsewhere_fault l exact f.before (marks.left u) (left_of labels false u) k (same_next labels u t.steady) here;
       }
 
-  -- the reason that is told for a fault
+  -- the reason that is reported for a fault
   pub reason_told : (P : Kind → Type 0) → ((k : Kind) → Refused k → P k) → {X : Type 0} (view : X → Y) (f : PartFault) → IsRead view (Err f) u (l.read (marks.left s)) → Unless (reason_of f) (P (kind_of (reason_of f)))
   reason_told P h view (parts.Syntax at) r = h marks.Syntax (refused_there marks.Syntax r.0)
   reason_told P h view (parts.Wide at) r = h marks.Wide (refused_there marks.Wide r.0)

@@ -98,7 +98,7 @@ length_with w ws = by (number_of w ws)
     by None = length-append ws (w ∷ [])
     by (Some n) = omega arith
 
--- the lengths after one more word, told whether it is the one in front, and whether it and that one were there
+-- the lengths after one more word, given whether it is the one in front, and whether it and that one were there
 step_same : (k f : ℕ) (there : Bool) → f + one there ≡ k + 1 → f + 0 + one (there || true) ≡ k + one (not there) + 1
 step_same k f true h = omega (arith, h)
 step_same k f false h = omega (arith, h)

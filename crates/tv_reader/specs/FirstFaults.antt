@@ -40,7 +40,7 @@ brought_in false kind = Variables
 
 -- The first fault of the text is of this kind and stands in this line and column. It is the token `here`: no program begins with the
 -- tokens up to it, also where only this kind of fault and those before it in the order are faults; where only the kinds before it
--- are, one does (told by Refuses).
+-- are, one does (Refuses says this).
 pub record HasFault (text : List ℕ) (kind : Kind) (line column : ℕ) : Type 0 where
   pub before : List Token
   pub here : Token
@@ -93,7 +93,7 @@ IsTold reasons.TooMany what line column f = f ≡ TooMany what line column
 IsTold reasons.UnknownName what line column f = ⊥
 IsTold reasons.Memory what line column f = f ≡ Memory
 
--- the program of these items, one of which is START
+-- the program of these items; one of the items is START
 pub record IsMade (r : Reader) (x : ItemsRead) (p : Program) : Type 0 where
   pub started : IsSome x.start
   pub same : system_of p ≡ record { variables = r.reading.names; locations = r.labels; start = 0; edges = transitions x.edges.items }

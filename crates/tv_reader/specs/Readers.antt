@@ -69,7 +69,7 @@ fixture r = record { text = r.reading.text; tokens = r.reading.tokens; names = r
 abbrev pub IsKept : Reader → Reader → Type 0
 IsKept r s = (x : Fixture) → fixture r ≡ x → fixture s ≡ x
 
--- A reading where names are added: all of them are known, and it has not passed the end. It is told whether it stands after a colon.
+-- A reading where names are added: all of them are known, and it has not passed the end. `b` says whether it stands after a colon.
 pub record Steady (b : Bool) (s : Stand) : Type 0 where
   pub grows : s.grows ≡ true
   pub level : s.level ≡ 0
@@ -149,7 +149,7 @@ abbrev pub rest_of : {X : Type 0} → Result X Reason → List Mark → List Mar
 rest_of (Ok x) ms = []
 rest_of (Err e) ms = ms
 
--- words with the one that is told in front, if it is one of them
+-- words with the given one in front, if it is one of them
 abbrev pub led : Option (Bor (List ℕ)) → List Word → List Word
 led None ws = ws
 led (Some w) ws = led_by (Some w.now) ws

@@ -23,7 +23,7 @@ use tv_language::{TokenKind, word_of};
 use tv_program::{Command, Edge};
 use tv_reading::{Reason, Turn};
 
-/// There is room for so many commands before their list grows.
+/// The list of commands has room for this many before it grows.
 const ROOM: usize = 32;
 
 #[inline(always)]

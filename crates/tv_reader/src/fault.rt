@@ -41,7 +41,7 @@ pub enum ReadFault {
     /// The second `START`.
     #[error("line {line}, column {column}: a second START")]
     TwoStarts { line: u32, column: u32 },
-    /// A name or a draw in a product of which an earlier factor has one.
+    /// A name or a draw in a product where an earlier factor has one.
     #[error("line {line}, column {column}: a product of two names or draws")]
     NotLinear { line: u32, column: u32 },
     /// A number of 2^62 or more.

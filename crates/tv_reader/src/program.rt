@@ -17,7 +17,7 @@ use tv_language::TokenKind;
 use tv_program::Edge;
 use tv_reading::{Reason, Turn};
 
-/// A program has at most so many edges.
+/// The most edges of a program.
 const MOST_EDGES: usize = 4096;
 
 fn with_edge(items: ItemsRead, edge: Edge) -> Result<ItemsRead, AllocFailed<Edge>>

@@ -8,10 +8,10 @@ use std::alloc::{AllocError, Global};
 use tv_language::{Token, TokenKind, is_colon, is_label, is_name, word_of};
 use tv_program::Names;
 
-/// A program has at most so many variables.
+/// The most variables of a program.
 const MOST_VARIABLES: u32 = 512;
 
-/// A program has at most so many locations.
+/// The most locations of a program.
 const MOST_LOCATIONS: u32 = 1024;
 
 /// The words of a text that have numbers: its first variables, and its first labels.

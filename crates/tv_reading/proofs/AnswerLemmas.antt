@@ -1,4 +1,4 @@
--- What an answer of code that reads tells of the grammar that it reads by.
+-- What an answer of code that reads says about the grammar that it reads by.
 use Rattle.std.proofs.Common.{◌≡◌, ◌<◌, true, List, length, Result, Ok, Err, refl, sym, subst, ◌∙◌}
 use Rattle.tv_grammar.specs.Reads.{Fault, faulty, fault, next}
 use Rattle.tv_grammar.specs.Langs.{Branch, headed_read, goes_at, turns}

@@ -86,7 +86,7 @@ mutual
 
 -- ---- bounds
 
--- a symbol within so many variables and draws
+-- a symbol within `variables` variables and `draws` draws
 abbrev pub symbol_fits : ℕ → ℕ → Symbol → Bool
 symbol_fits variables draws (number k) = nat_lt k (2 ^ 62)
 symbol_fits variables draws (name v) = nat_lt v variables

@@ -1,4 +1,4 @@
--- A second START, a name too many and one that is not known are told only where a token is marked so.
+-- A second START, a name too many and one that is not known are reported only where a token is marked so.
 use Rattle.std.proofs.Common.{◌≡◌, ℕ, zero, suc, Bool, true, false, List, [], ◌∷◌, ◌++◌, Option, Some, None, refl, pos}
 use Rattle.std.specs.Prelude.{◌&&◌}
 use Rattle.tv_language.specs.declared.token.TokenKind.{TokenKind}

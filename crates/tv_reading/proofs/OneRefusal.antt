@@ -75,7 +75,7 @@ module _ {T X : Type 0} (grammar : (Kind → Bool) → ℕ → Lang T Kind X) (e
       let c = text_too (upto k) (grammar every n) (grammar (upto k) m.0) (exact every n) (ends every n) (exact (upto k) m.0) l d in
       (h.none m.0 m.1).none c.0 r refl (c.1 ∙ e)
 
-  -- of two kinds the earlier one is told
+  -- of two kinds the earlier one is reported
   not_both : (j k : Kind) (before r : List T) (t : T) → next r ≡ Some t → rank j < rank k → Refusal grammar n j before r → Refusal grammar n k before r → ⊥
   not_both j k before r t is l h i =
       let m = levels_of (upto j Deep) n in

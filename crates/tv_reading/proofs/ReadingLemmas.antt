@@ -1,4 +1,4 @@
--- What a reading answers, told by what its parts do.
+-- What a reading answers, by what its parts do.
 use Rattle.std.proofs.Common.{◌≡◌, ℕ, true, List, Result, Err, refl, sym, ap, subst, ◌∙◌}
 use Rattle.tv_program.specs.Trees.{Expression, Condition}
 use Rattle.tv_grammar.specs.Reads.{Fault, fault}
@@ -20,7 +20,7 @@ use Rattle.tv_reading.specs.Readings.{token_at, sum_levels, condition_levels, Is
 pub passed_by : (s : Source) (old new : Cursor) (v : Stand) → stand s old ≡ v → Keeps s old new → Passes v (stand s new)
 passed_by s old new v is k = subst (λ (x : Stand). Passes x (stand s new)) is (k (stand s old) (stay (stand s old)))
 
--- a fault of a kind at a place is told by its own kind
+-- a fault of a kind at a place is reported by its own kind
 told_kind : {X Y : Type 0} (view : X → Y) (now : Stand) (read : Result (Y × List Mark) (Fault Mark Kind)) (k : Kind) (f : PartFault) → read ≡ fault k (left now) → IsFault f k (token_at now).at → IsRead view (Err f) now read
 told_kind {X} {Y} view now read k (faults.Syntax at) e h = (e ∙ ap (λ (j : Kind). fault {X = Y × List Mark} j (left now)) h.0, (refl, h.1))
 told_kind {X} {Y} view now read k (faults.Wide at) e h = (e ∙ ap (λ (j : Kind). fault {X = Y × List Mark} j (left now)) h.0, (refl, h.1))

@@ -76,7 +76,7 @@ pub body_front : (a b : List Symbol) → all_body (a ++ b) ≡ true → all_body
 body_front [] b h = refl
 body_front (s ∷ a) b h = and_from _ _ ((and_parts _ _ h).0) (body_front a b ((and_parts _ _ h).1))
 
--- ts is these symbols, and rest; there are so many draws, and they are sound where fits says so
+-- ts is these symbols, and rest; there are `count` draws, and they are sound where `fits` says so
 pub record Uses (count : ℕ) (fits : ℕ → ℕ → Bool) (ts rest : List Symbol) : Type 0 where
   pub used : List Symbol
   pub parts : ts ≡ used ++ rest

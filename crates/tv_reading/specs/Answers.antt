@@ -22,7 +22,7 @@ kind_of TooMany = marks.TooMany
 kind_of UnknownName = marks.UnknownName
 kind_of Memory = marks.Syntax
 
--- the reason that a fault tells
+-- the reason that a fault gives
 abbrev pub reason_of : PartFault → Reason
 reason_of (parts.Syntax at) = Syntax
 reason_of (parts.Wide at) = Wide

@@ -29,7 +29,7 @@ abbrev pub Levels : Bool → ℕ → ℕ → Type 0
 Levels true n m = n ≡ m
 Levels false n m = n < m
 
--- Reading is refused at the first of r with this kind, by a grammar of n levels, told which kinds of fault are kept.
+-- Reading is refused at the first of r with this kind, by a grammar of n levels that is given which kinds of fault are kept.
 pub record Refuses {T X : Type 0} (grammar : (Kind → Bool) → ℕ → Lang T Kind X) (n : ℕ) (k : Kind) (ts r : List T) : Type 0 where
   pub before : List T
   pub parts : ts ≡ before ++ r

@@ -4,8 +4,8 @@ use Rattle.tv_grammar.specs.Reads.{next}
 use Rattle.tv_language.specs.Symbols.{Symbol}
 use Rattle.tv_reading.specs.Marks.{Mark, symbol_of, symbols_of}
 
--- A front of ms is a text that stands for x, told as by IsSum what a text and the rest after it are; no text begins with that
--- front and the next token.
+-- A front of ms is a text that stands for x; `IsText` says, as IsSum does, what a text and the rest after it are. No text begins with
+-- that front and the next token.
 pub record IsLongest {X : Type 0} (IsText : X → List Symbol → List Symbol → Type 0) (x : X) (ms left : List Mark) : Type 0 where
   pub passed : List Mark
   pub parts : ms ≡ passed ++ left

@@ -86,7 +86,7 @@ pub fn kind_of(part: Option<Part>) -> TokenKind
     }
 }
 
-/// The kind of a token, as `kind_of` tells it of what the grammar sees.
+/// The kind of a token, as `kind_of` gives it for what the grammar sees.
 #[inline(always)]
 fn kind_seen(source: &Source, cursor: &Cursor, token: Token) -> TokenKind
     ensures { result ≡ kind_at (Some (mark_by source.now.grows cursor.now.names cursor.now.draws token.kind (lexeme source.now.text.now token).word)) }

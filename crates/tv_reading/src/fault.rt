@@ -7,7 +7,7 @@ pub enum PartFault {
     Wide { at: u32 },
     /// The token that opens level 65.
     Deep { at: u32 },
-    /// A name or a draw in a product of which an earlier factor has one.
+    /// A name or a draw in a product where an earlier factor has one.
     NotLinear { at: u32 },
     /// A name beside 512 others, or a draw after 64 others.
     TooMany { at: u32 },

@@ -22,10 +22,10 @@ pub enum Part {
 /// How deep brackets, signs and operators may nest.
 pub const MOST_LEVELS: u32 = 64;
 
-/// At most so many names are added.
+/// The most names that are added.
 pub const MOST_NAMES: u32 = 512;
 
-/// At most so many draws stand in an edge.
+/// The most draws that stand in an edge.
 pub const MOST_DRAWS: u32 = 64;
 
 /// A name where names are added: its number, or that of the next one.

@@ -174,7 +174,7 @@ impl<'a> Reading<'a> {
         self.cursor.draws
     }
 
-    /// Goes to the place after so many tokens, and counts brackets from this level on.
+    /// Goes to the place after `place` tokens, and counts brackets from `level` on.
     pub fn go(&mut self, place: u32, level: u32)
         requires fixed { self.old.grows ≡ false }
         requires within { place < length self.old.tokens }

@@ -72,7 +72,7 @@ not_entered about c wide away none (s, initial, inl may) = away (sym may.0 ∙ i
 not_entered about c wide away none (s, initial, inr (t, st, may)) =
     none st.among.0 st.among.1 st.taken (read_at about.cases st.among.0 st.taken st.among.1 st.among.2) (sym st.does.leaves ∙ initial.place) (sym st.does.enters ∙ may.0) (s.values ++ st.draws) (entry_point about c s t st initial wide may.1)
 
--- at a whole point of the rows with the numbers put in, the case leads to where the guards are met
+-- at an integer point of the rows with the numbers put in, the case leads to where the guards are met
 pub never_left : (n : ℕ) (c : LinearCase) (ds : List ℤ) (guards rows drawn from into : List Linear) → AreEntering c guards rows → All (λ r. columns r ≡ n) guards → drawn ≡ rows_put (drawn_terms n ds) rows → from ≡ drawn → into ≡ guards → length ds ≡ c.draws → IsLeft n c ds from into → ⊥
 never_left n c ds guards rows drawn from into entering wide made f g counted left =
     let xs = left.values in

@@ -131,7 +131,7 @@ module _ (about : CaseSystem) (b : Budget) where
       weaker about b.pivots _ (IsSpent about b.splits) fault (λ path s. inr s)
       (empty_refusal about [] f 2 rows b.pivots b.splits fault (λ r of. derived r (All-contains (IsDerived about [] f 2) rows r d of)) (subst (λ k. IsEmptyFault k rows b.pivots b.splits fault) e h))
 
-  -- the numbers of a whole point of such rows may be put in for the draws
+  -- the numbers of an integer point of such rows may be put in for the draws
   pub may_put : (h : ℕ) (c : LinearCase) (rows : List Linear) (zs ds : List ℤ) (m : ℕ) → m ≡ n + c.draws → AreFrom about (over_case c) h rows → IsWholePointOf m rows zs → length ds ≡ c.draws → ((j : ℕ) → j < c.draws → get_or ds j (pos 0) ≡ get_or zs (n + j) (pos 0)) → MayPutAt h about c ds
   may_put h c rows zs ds m e d point counted same j l =
       subst (λ t. IsDrawTerm about [] (over_case c) h j t) (sym (number_at ds j (let q = counted in omega (arith, l, q)) ∙ ap (constant_row n) (same j l)))

@@ -170,7 +170,7 @@ never_stays about c rows good same none s initial ds does =
           (firsts 0 c.updates good.in_order))));
     })
 
--- at a whole point of the rows with the numbers put in the case leads into them again
+-- at an integer point of the rows with the numbers put in the case leads into them again
 pub stays_in : (n : ℕ) (c : LinearCase) (ds xs : List ℤ) (rows : List Linear) → rows ≡ staying_rows n c → length xs ≡ n → length ds ≡ c.draws → All (IsMet xs) (rows_put (drawn_terms n ds) rows) → Enters c ds (rows_put (drawn_terms n ds) rows) xs
 stays_in n c ds xs rows same many counted met =
     let back = put_met_back n ds xs many rows met in

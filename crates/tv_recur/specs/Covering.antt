@@ -8,7 +8,7 @@ use Rattle.tv_points.specs.PointRows.{number_rows}
 use Rattle.tv_recur.specs.Choosing.{IsChoiceOf}
 use Rattle.tv_recur.specs.declared.taking.Taking.{Taking}
 
--- the choice is that of the cover, where it takes the case with its numbers, each of which is narrow
+-- The choice is that of the cover, where it takes the case with its numbers. Each number is narrow.
 pub record IsTakenBy (t : Taking) (old : CoverTree) (new : ChoiceTree) : Type 0 where
   pub draws : List Linear
   pub numbers : draws ≡ number_rows (cases_of t.about.now).variables t.draws.now

@@ -57,7 +57,7 @@ NoEntryAt about kept k =
 abbrev pub NoLoopAt : CaseSystem → ℕ → Type 0
 NoLoopAt about k = (c : LinearCase) → slice_get about.cases k ≡ Some c → IsKeptLoop about c → IsEntered about c → ⊥
 
--- so it is with each of the first so many cases
+-- so it is with each of the first `k` cases
 abbrev pub NoEntryBelow : CaseSystem → LinearCase → ℕ → Type 0
 NoEntryBelow about kept k = (j : ℕ) → j < k → NoEntryAt about kept j
 

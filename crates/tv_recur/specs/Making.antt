@@ -21,7 +21,7 @@ FitsPut terms r = (column : ℕ) → column ≤ columns (composed r terms) → F
 abbrev pub rows_put : List Linear → List Linear → List Linear
 rows_put terms rows = map (λ r. composed r terms) rows
 
--- the rows with the terms, each of which fits
+-- The rows with the terms put in. Each row fits.
 pub record ArePut (terms rows made : List Linear) : Type 0 where
   pub exact : made ≡ rows_put terms rows
   pub fits : All (FitsPut terms) rows

@@ -28,7 +28,7 @@ pub record Enters (c : LinearCase) (ds : List ℤ) (entered : List Linear) (xs :
   pub guards : All (IsMet (xs ++ ds)) c.guards
   pub into : All (IsMet (map (term_value (xs ++ ds)) (terms_after (length xs) c.updates))) entered
 
--- at some whole point of the rows it does not
+-- at some integer point of the rows it does not
 pub record IsLeft (n : ℕ) (c : LinearCase) (ds : List ℤ) (rows into : List Linear) : Type 0 where
   pub values : List ℤ
   pub point : IsWholePoint n rows values

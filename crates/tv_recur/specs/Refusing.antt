@@ -17,18 +17,18 @@ use Rattle.tv_cover_refusals.specs.Covers.{IsSpentOnTargets}
 use Rattle.tv_points.specs.PointRows.{number_rows}
 use Rattle.tv_recur.specs.Staying.{added, taken_off}
 
--- a path that has spent so many splits, on a cover of one target or on a whole point
+-- a path that has spent `splits` splits, on a cover of one target or on an integer point
 abbrev pub IsSpent : CaseSystem → ℕ → List Branch → Type 0
 IsSpent about splits path = IsSpentOnTargets about [] 1 2 splits path ⊎ IsSpentOnRows about [] 2 splits path
 
 abbrev pub IsRefusal : CaseSystem → Budget → CoverFault → Type 0
 IsRefusal about budget fault = IsRefusalOf about [] 2 budget.pivots (IsSpent about budget.splits) fault
 
--- rows of the scope that come from the cases, with so many of them on the way
+-- rows of the scope that come from the cases, with `h` of them on the way
 abbrev pub AreFrom : CaseSystem → Scope → ℕ → List Linear → Type 0
 AreFrom about f h rows = All (IsDerived about [] f h) rows
 
--- the numbers may be put in for the draws of the case, with so many cases on the way, or with two
+-- the numbers may be put in for the draws of the case, with `h` cases on the way, or with two
 abbrev pub MayPutAt : ℕ → CaseSystem → LinearCase → List ℤ → Type 0
 MayPutAt h about c ds = (j : ℕ) → j < c.draws → IsDrawTerm about [] (over_case c) h j (get_or (number_rows about.variables ds) j (false_row 0))
 

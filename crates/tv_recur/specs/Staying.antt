@@ -31,6 +31,6 @@ NeverStays about c = (s : State) → IsInitialAt about s → (ds : List ℤ) →
 abbrev pub NeverStaysAt : CaseSystem → ℕ → Type 0
 NeverStaysAt about k = (c : LinearCase) → slice_get about.cases k ≡ Some c → NeverStays about c
 
--- nor by any of the first so many cases
+-- nor by any of the first `k` cases
 abbrev pub NeverStaysBelow : CaseSystem → ℕ → Type 0
 NeverStaysBelow about k = (j : ℕ) → j < k → NeverStaysAt about j

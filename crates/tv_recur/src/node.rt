@@ -28,7 +28,7 @@ pub(crate) fn piece_of(
     }
 }
 
-/// The node of these pieces, from each of which a choice leads into one of them.
+/// The node of these pieces. From each of them a choice leads into one of them.
 pub(crate) fn endless_node(
     alloc: Global,
     about: &Cases,

@@ -98,7 +98,7 @@ pub(crate) fn lone_node(
     endless_node(alloc, about, pieces, proofs)
 }
 
-/// The recurrence at a whole point where the case can be taken and changes nothing.
+/// The recurrence at an integer point where the case can be taken and changes nothing.
 fn staying_at(
     search: &Search,
     case: &Case,

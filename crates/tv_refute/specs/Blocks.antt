@@ -3,12 +3,12 @@ use Rattle.tv_linear.specs.Fits.{IsHeld}
 use Rattle.tv_linear.specs.Refutation.{ColumnHeld, column_sum}
 use Rattle.tv_linear.specs.Known.{Known, Term, PlacesHeld, place_sum, KnownHeld, known_number, term_number}
 
--- the column so many places further; the constant stays the constant
+-- the column k places further; the constant stays the constant
 abbrev pub further : Option ℕ → ℕ → Option ℕ
 further None k = None
 further (Some j) k = Some (j + k)
 
--- where it is true, each of so many numbers can be told and stands in the list, and else not all can be told
+-- where it is true, each of `count` numbers can be told and stands in the list, and else not all can be told
 abbrev pub AreTold : Bool → ℕ → (ℕ → Type 0) → (ℕ → ℤ) → List ℤ → Type 0
 AreTold false count told number xs = ((k : ℕ) → k < count → told k) → ⊥
 AreTold true count told number xs = (k : ℕ) → k < count → told k × (get_or xs k (pos 0) ≡ number k)

@@ -16,7 +16,7 @@ pub(crate) trait Addend {
         ensures { SomeIff result (told self.now k) (number self.now k) };
 }
 
-/// Adds so many products with a factor; whether each number can be told, and is held with its product and sum. Where
+/// Adds `count` products with a factor; whether each number can be told, and is held with its product and sum. Where
 /// a number is 0 its sum is not touched.
 pub(crate) fn add_each<A: Addend>(
     totals: &mut [i128],

@@ -42,7 +42,7 @@ pub fn number_of(known: &Built, column: Option<usize>) -> Option<i128>
     }
 }
 
-/// Puts the numbers of a row in so many columns from one on, or its constant; whether no number on the way is
+/// Puts the numbers of a row in `count` columns from one on, or its constant; whether no number on the way is
 /// 2^127 or more in magnitude.
 #[cycle(numbers)]
 pub(crate) fn read_numbers(
@@ -161,7 +161,7 @@ fn add_constant(inner: &Built, column: Option<usize>, count: usize, numbers: &mu
 }
 
 /// Puts the sums over the terms that are put in for the columns of a row. Each number of the row is read once
-/// for so many columns, and its term is passed where it is 0.
+/// for `count` columns, and its term is passed where it is 0.
 #[cycle(numbers)]
 fn compose(
     inner: &Built,

@@ -29,7 +29,7 @@ pub enum Frames<'a> {
     },
 }
 
-/// Puts the sums of the products with the rows known at a place, in so many columns from one on, or of the
+/// Puts the sums of the products with the rows known at a place, in `count` columns from one on, or of the
 /// constants.
 pub(crate) fn sums_at(
     frames: &Frames,
@@ -176,7 +176,7 @@ fn add_read(
     add_each(totals, count, multiplier, &Read(numbers))
 }
 
-/// Whether so many rows are known at the place.
+/// Whether `count` rows are known at the place.
 pub(crate) fn is_count(frames: &Frames, count: usize) -> bool
     ensures { IsTrue result ↔ (count ≡ length (known_at frames.now)) }
 {

@@ -7,7 +7,7 @@ use tv_linear::{RowView, Rows};
 
 const PART: i128 = 1 << 62;
 
-/// The whole number `high * 2^124 + middle * 2^62 + low`.
+/// The integer `high * 2^124 + middle * 2^62 + low`.
 #[derive(Clone, Copy)]
 struct Wide {
     high: i128,
@@ -80,7 +80,7 @@ fn times(coefficient: i128, part: i128) -> i128
     coefficient * part
 }
 
-/// The sum of a number that is a sum of so many products, and one more.
+/// The sum of a number that is a sum of `parts` products, and one more.
 fn plus(parts: usize, total: Wide, part: Wide) -> Wide
     requires bounded { parts < 2 ^ 32 }
     requires total { IsSmall parts total }

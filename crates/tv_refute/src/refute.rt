@@ -16,7 +16,7 @@ fn none_negative(multipliers: &[i64]) -> bool
     multipliers.iter().all(|m| *m >= 0)
 }
 
-/// Whether the sum is 0 in each of so many columns, with room for the sums in a block of them.
+/// Whether the sum is 0 in each of `columns` columns, with room for the sums in a block of them.
 fn are_cancelled_in(
     columns: usize,
     frames: &Frames,
@@ -43,7 +43,7 @@ fn are_cancelled_in(
     true
 }
 
-/// Whether the sum of the products with the rows known at the place is 0 in each of so many columns.
+/// Whether the sum of the products with the rows known at the place is 0 in each of `columns` columns.
 fn are_cancelled(columns: usize, frames: &Frames, multipliers: &[i64]) -> bool
     requires { length multipliers.now ≡ length (known_at frames.now) }
     ensures { IsTrue result ↔ AreCancelled multipliers.now (known_at frames.now) columns }
@@ -75,7 +75,7 @@ pub fn refutes(columns: usize, frames: &Frames, multipliers: &[i64]) -> bool
     sums_at(frames, multipliers, None, 1, &mut constant) && constant[0] > 0
 }
 
-/// Whether so many numbers are 0.
+/// Whether the first `count` numbers are 0.
 fn are_zero(numbers: &[i128], count: usize) -> bool
     requires { count ≤ length numbers.now }
     ensures { IsTrue result ↔ ((k : ℕ) → k < count → get_or numbers.now k (pos 0) ≡ pos 0) }

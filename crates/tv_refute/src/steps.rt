@@ -16,7 +16,7 @@ pub(crate) trait Step {
         ensures { SomeIff result (told self.now k old) (value self.now k old) };
 }
 
-/// Changes so many numbers; whether each can be told.
+/// Changes the first `count` numbers; whether each can be told.
 pub(crate) fn change_each<S: Step>(numbers: &mut [i128], count: usize, step: &S) -> bool
     requires { count ≤ length numbers.old }
     ensures size { length numbers.new ≡ length numbers.old }

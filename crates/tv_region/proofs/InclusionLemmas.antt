@@ -1,5 +1,5 @@
--- Rows inside of others, at whole points.
-use Rattle.std.proofs.Common.{◌≡◌, ◌∙◌, ℕ, ◌+◌, ◌<◌, List, [], ◌∷◌, ◌++◌, length, get_or, ℤ, Bool, true, false}
+-- Rows inside of others, at integer points.
+use Rattle.std.proofs.Common.{◌≡◌, ◌∙◌, ℕ, ◌<◌, List, [], ◌∷◌, ◌++◌, length, get_or, ℤ, Bool, true, false}
 use Rattle.std.specs.Prelude.{not, Vec}
 use Rattle.std.specs.Global.{Global}
 use Rattle.tv_linear.specs.Linear.{Linear}

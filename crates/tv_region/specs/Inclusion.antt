@@ -1,4 +1,4 @@
--- Rows inside of others, at whole points over n columns.
+-- Rows inside of others, at integer points over n columns.
 use Rattle.std.specs.Prelude.{◌≡◌, ℕ, ◌≤◌, List, length, ℤ, true}
 use Rattle.tv_linear.specs.Linear.{Linear}
 use Rattle.tv_region.specs.Met.{meets, all_met, some_met, Has, AreApart}

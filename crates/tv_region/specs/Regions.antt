@@ -44,7 +44,7 @@ HasRow region r = (l : ℕ) × HasRowAt region l r
 abbrev pub IsReduced : Region → Type 0
 IsReduced region = (l : ℕ) → AreReduced region.variables (lists_at l region.pieces.items)
 
--- a number as 64 bits tell it
+-- a number, or 2^64 - 1 where it is greater
 abbrev pub capped : ℕ → ℕ
 capped n = min n (2 ^ 64 - 1)
 
@@ -55,7 +55,7 @@ IsSameFault location count (lists.Wide column) fault = fault ≡ Wide column
 IsSameFault location count (lists.Solve rows why) fault = fault ≡ Solve rows why
 IsSameFault location count lists.Memory fault = fault ≡ Memory
 
--- What a refusal shows: so many pieces are made at the location, more than the budget allows; a row that is made is too wide at the
+-- What a refusal shows: `count` pieces are made at the location, more than the budget allows; a row that is made is too wide at the
 -- column; the rows are made at one location, each of them once, and their refutation system has the fault.
 abbrev pub IsRegionFault : ℕ → (ℕ → Linear → Type 0) → (ℕ → Type 0) → (ℕ → ℕ → Type 0) → Budget → RegionFault → Type 0
 IsRegionFault n Made TooWide Counted budget (Disjuncts location count) = Counted location count × (budget.disjuncts < count)
@@ -63,7 +63,7 @@ IsRegionFault n Made TooWide Counted budget (Wide column) = TooWide column
 IsRegionFault n Made TooWide Counted budget (Solve rows fault) = (l : ℕ) × IsUnsolved n (Made l) budget.pivots rows.items fault
 IsRegionFault n Made TooWide Counted budget Memory = Unit {0}
 
--- the count is that of the pieces at the location, as 64 bits tell it
+-- the count is that of the pieces at the location, or 2^64 - 1 where there are more
 abbrev pub IsCount : (ℕ → ℕ) → ℕ → ℕ → Type 0
 IsCount number location count = count ≡ capped (number location)
 

@@ -75,7 +75,7 @@ pub(crate) fn sum_at(
     }
 }
 
-/// Lists of which one is met where none of these is.
+/// Lists: one of them is met where none of these is.
 pub(crate) fn rest_of(
     alloc: Global,
     first: &[Vec<Row>],

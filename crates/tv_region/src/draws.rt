@@ -14,7 +14,7 @@ use crate::rows::insert;
 use std::alloc::{AllocError, Global};
 use tv_linear::{Row, RowFault};
 
-/// The row with so many of its columns.
+/// The row with its first `columns` columns.
 fn without_last(alloc: Global, row: &Row, columns: u32) -> Result<Row, AllocError>
     requires { columns ≤ width row.now }
     ensures { IfOk result (λ r. r ≡ shortened columns row.now) }
@@ -90,7 +90,7 @@ fn tight_pair(alloc: Global, first: i128, second: i128) -> Result<Row, AllocErro
     }
 }
 
-/// The least positive whole numbers by which the two rows add up to 0 in the column, as the coefficients of a row.
+/// The least positive integers by which the two rows add up to 0 in the column, as the coefficients of a row.
 fn multiples_of(alloc: Global, upper: &Row, lower: &Row, column: u32) -> Result<Row, AllocError>
     requires upper { column < width upper.now }
     requires lower { column < width lower.now }
@@ -279,7 +279,7 @@ fn eliminate(alloc: Global, rows: &[Row], column: u32) -> Result<Shadow, ListFau
     }
 }
 
-/// The rows without so many last columns.
+/// The rows without their last `draws` columns.
 pub(crate) fn project(
     alloc: Global,
     rows: Vec<Row>,

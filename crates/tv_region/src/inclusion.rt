@@ -1,4 +1,4 @@
-// Whether rows lie inside of others at whole points: asked first of a point that is known, and then of the solver.
+// Whether rows lie inside of others at integer points: asked first of a point that is known, and then of the solver.
 
 ghost use Rattle.std.specs.Prelude.{◌≡◌, ◌≤ℤ◌, ℤ, List, length, IfOk, IfSome, IsTrue, true};
 ghost use Rattle.tv_linear.specs.Linear.{Linear, columns as width, scaled_value};
@@ -74,7 +74,7 @@ fn is_refuted(alloc: Global, rows: &[Row], more: Row, limits: &Limits) -> Result
     }
 }
 
-/// Whether the solver shows that each whole point that meets the rows meets this one: it refutes them with the denial of it.
+/// Whether the solver shows that each integer point that meets the rows meets this one: it refutes them with the denial of it.
 fn is_shown(alloc: Global, rows: &[Row], row: &Row, limits: &Limits) -> Result<bool, AllocError>
     requires rows { (r : Linear) → Has rows.now r → width r ≡ limits.now.columns }
     requires row { width row.now ≡ limits.now.columns }
@@ -106,7 +106,7 @@ fn are_shown(
     Ok(true)
 }
 
-/// Whether the rows are found to lie inside of the outer ones, of which the point, which meets the rows, meets no denial then.
+/// Whether the rows are found to lie inside of the outer ones. The point meets the rows, so then it meets no denial of an outer one.
 fn is_found_inside(
     alloc: Global,
     rows: &[Row],

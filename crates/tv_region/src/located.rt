@@ -13,7 +13,7 @@ use crate::lists::place;
 use std::alloc::Global;
 use tv_linear::{Region, Row};
 
-/// Lists of rows for each location, of which one is met where a state is to be in the region that they make.
+/// Lists of rows for each location. One of the lists is met where a state is to be in the region that they make.
 pub(crate) trait Located {
     ghost variables: { Self → ℕ };
 

@@ -26,7 +26,7 @@ fn point_of(alloc: Global, rows: &[Row], limits: &Limits) -> Result<Option<Point
     }
 }
 
-/// Whether the rows, of which a point is found, are found to lie inside of one of the lists.
+/// Whether a point of the rows is found, and the rows are found to lie inside of one of the lists.
 fn is_redundant(
     alloc: Global,
     rows: &[Row],

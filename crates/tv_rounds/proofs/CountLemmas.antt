@@ -56,7 +56,7 @@ module _ (l : ℕ) (target : List Piece) (g : LinearCase → ℕ) where
 
 -- ---- of the regions
 module _ (about : CaseSystem) where
-  -- going back from a region that has at most so many pieces
+  -- going back from a region that has at most bound l pieces at location l
   module _ (bound : ℕ → ℕ) (target region : Region) (bounded : (l : ℕ) → count_at l target ≤ bound l) (l : ℕ) where
     some_few : IsBefore about target region → count_at l region ≤ some_count about.cases bound l
     some_few h =

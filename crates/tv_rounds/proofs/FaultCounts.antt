@@ -1,4 +1,4 @@
--- How many pieces a refused call on regions tells of.
+-- How many pieces a refused call on regions reports.
 use Rattle.std.proofs.Common.{◌≡◌, inl, inr, ℕ, ◌+◌, ◌*◌, ◌≤◌, List, [], ◌∷◌, ◌++◌, map, length, refl, sym, subst, arith, cond}
 use Rattle.std.specs.Prelude.{max, sum, ◌==◌}
 use Rattle.std.proofs.Math.Nat.{le-max_left, le-max_right, min-le_left}
@@ -33,14 +33,14 @@ has_middle : (before after : List LinearCase) (c : LinearCase) → Has (before +
 has_middle [] after c = inl refl
 has_middle (b ∷ before) after c = inr (has_middle before after c)
 
--- ---- what a call tells
+-- ---- what a call reports
 pub within_more : (b c : ℕ → ℕ) → ((l : ℕ) → b l ≤ c l) → (fault : RegionFault) → IsFaultWithin b fault → IsFaultWithin c fault
 within_more b c w (Disjuncts l k) h = trans k (b l) (c l) h (w l)
 within_more b c w (Wide column) h = tt
 within_more b c w (Solve rows fault) h = tt
 within_more b c w Memory h = tt
 
--- a number as 64 bits tell it is no greater
+-- a capped number is no greater
 told_less : (k n m : ℕ) → k ≡ capped n → n ≤ m → k ≤ m
 told_less k n m e l = subst (λ j. j ≤ m) (sym e) (trans (capped n) n m (min-le_left n _) l)
 
@@ -89,7 +89,7 @@ module _ (about : CaseSystem) where
           (λ l. every_product l target.pieces.items (λ c. max 1 (length c.guards + b c.to)) about.cases plain
           (λ c. trans (length c.guards + count_at c.to target) (length c.guards + b c.to) (max 1 (length c.guards + b c.to)) (let f = bounded c.to in omega (arith, f)) (le-max_right 1 (length c.guards + b c.to)))) h
 
-      -- going back into a region that has at most so many pieces
+      -- going back into a region that has at most b l pieces at location l
       pub back_counted : (b : ℕ → ℕ) → ((l : ℕ) → count_at l target ≤ b l) → (path : Path) → IsBackFault about path target budget fault → IsFaultWithin (next_count about.cases path b) fault
       back_counted b bounded Every h = all_counted b bounded h
       back_counted b bounded Any h = any_counted b bounded h

@@ -6,7 +6,7 @@ use tv_linear::Region;
 /// round k. With the end side before them they make up the region. The other shapes have none.
 #[derive(Drop)]
 pub enum Rounds {
-    /// Round `at` equals the next one, so the region has the states where the fixed point holds.
+    /// Round `at` equals the next one, so the region has the states where the fixpoint holds.
     Settled {
         region: Region,
         at: u32,

@@ -2,7 +2,7 @@ use std::alloc::{AllocError, AllocFailed};
 use tv_farkas::CoverFault;
 use tv_region::RegionFault;
 
-/// Why the rounds of a fixed point were not made.
+/// Why the rounds of a fixpoint were not made.
 #[derive(Drop)]
 pub enum RoundFault {
     /// A call on regions was refused; the fault is no want of memory.

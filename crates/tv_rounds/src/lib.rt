@@ -1,4 +1,4 @@
-//! The rounds of fixed points, as regions of states.
+//! The rounds of fixpoints, as regions of states.
 #![tactic(auto)]
 
 mod answer;

@@ -21,7 +21,7 @@ fn are_plain(cases: &[Case]) -> bool
     true
 }
 
-/// Whether no case has a draw. Then going back is exact, whatever the sides of a fixed point.
+/// Whether no case has a draw. Then going back is exact, whatever the sides of a fixpoint.
 pub fn has_no_draws(about: &Cases) -> bool
     ensures { IsTrue result ↔ HasNoDraws (cases_of about.now) }
 {

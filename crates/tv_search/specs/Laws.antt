@@ -14,7 +14,7 @@ use Rattle.tv_search.specs.declared.search_fault.SearchFault.{SearchFault}
 use Rattle.tv_search.specs.declared.search_fault.SearchFault.TheVariants.{Invariant, Paths, Cover, Memory}
 use Rattle.tv_search.specs.Answers.{HasNoPoint, IsLeftPoint, IsUnsearched}
 
--- each proposer given its rest, and no whole point at the location meets the greatest inductive part of what they told
+-- each proposer given its rest, and no integer point at the location meets the greatest inductive part of what they told
 pub record ShutsOut {A : Type 0} (rest : A → Option (List Candidate)) (proposers : List A) (about : CaseSystem) (l : ℕ) : Type 0 where
   pub lists : List (List Candidate)
   pub told : AllZip (λ p given. rest p ≡ Some given) proposers lists
@@ -26,7 +26,7 @@ pub record ShutsOut {A : Type 0} (rest : A → Option (List Candidate)) (propose
 abbrev pub LeavesNone : {A : Type 0} → (A → Option (List Candidate)) → List A → CaseSystem → ℕ → Type 0
 LeavesNone rest proposers about l = (point : List ℤ) → IsLeftPoint about (Gave rest proposers) l point → ⊥
 
--- what the proposers tell: the rest of each, where each tells it
+-- what the proposers report: the rest of each, where each reports it
 abbrev pub AreTold : {A : Type 0} → (A → Option (List Candidate)) → List A → Told → Type 0
 AreTold rest proposers None = Unit {0}
 AreTold rest proposers (Some rests) = AllZip (λ p given. rest p ≡ Some given) proposers rests

@@ -4,7 +4,7 @@ use tv_farkas::CoverFault;
 /// Why a search for a short run ended.
 #[derive(Drop)]
 pub(crate) enum RunFault {
-    /// There are so many paths of one length.
+    /// There are `count` paths of one length.
     Paths { count: u64 },
     Cover { fault: CoverFault },
 }

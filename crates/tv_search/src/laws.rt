@@ -7,7 +7,7 @@ ghost use Rattle.tv_farkas.specs.declared.budget.Budget.{Budget};
 ghost use Rattle.tv_search.specs.declared.search_fault.SearchFault.{SearchFault};
 ghost use Rattle.tv_search.specs.Laws.{ShutsOut, LeavesNone, IsCauseOf};
 
-/// Where all proposers tell their rest and the greatest inductive part of it has no whole point at the location, no point is left: so
+/// Where all proposers report their rest and the greatest inductive part of it has no integer point at the location, no point is left: so
 /// neither of the faults `Invariant` and `Paths` comes, whatever the limits are.
 pub fn shut_out_leaves_none<P>()
     ensures { (rest : P → Option (List Candidate)) (ps : List P) (about : CaseSystem) (l : ℕ) →

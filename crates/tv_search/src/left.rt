@@ -1,4 +1,4 @@
-// Whole points that rows at a location leave.
+// Integer points that rows at a location leave.
 
 ghost use Rattle.std.specs.Prelude.{◌≡◌, ◌≤◌, IfOk};
 ghost use Rattle.std.specs.Result.{IfErr};
@@ -29,7 +29,7 @@ fn rows_at(alloc: Global, list: &[Candidate], location: u32) -> Result<Vec<Row>,
     Ok(rows)
 }
 
-/// A whole point that meets the rows of the candidates at a location; `None` where there is none.
+/// An integer point that meets the rows of the candidates at a location; `None` where there is none.
 pub(crate) fn left_point(
     alloc: Global,
     about: &Cases,

@@ -1,4 +1,4 @@
-/// A path of cases from the start to a location, and a whole point of its rows.
+/// A path of cases from the start to a location, and an integer point of its rows.
 #[derive(Drop)]
 pub(crate) struct MetPath {
     pub path: Vec<u32>,

@@ -6,7 +6,7 @@ use tv_farkas::CoverFault;
 pub enum SearchFault {
     /// The rows at the location leave this point, and no run of at most 8 steps comes to the location.
     Invariant { point: Vec<i128> },
-    /// The rows at the location leave this point, and runs of one length may take so many paths.
+    /// The rows at the location leave this point, and runs of one length may take `count` paths.
     Paths { count: u64, point: Vec<i128> },
     Cover { fault: CoverFault },
     Memory,

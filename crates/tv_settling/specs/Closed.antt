@@ -10,6 +10,6 @@ use Rattle.tv_lexrank.specs.Closing.{LeadsOut}
 abbrev pub AreKept : CaseSystem → List Piece → Type 0
 AreKept about known = (taken : ℕ) (values : List ℤ) → LeadsOut about known taken values → ⊥
 
--- no whole point meets the rows
+-- no integer point meets the rows
 abbrev pub HaveNoPoint : ℕ → List Linear → Type 0
 HaveNoPoint n rows = (xs : List ℤ) → IsWholePoint n rows xs → ⊥

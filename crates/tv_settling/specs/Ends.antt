@@ -92,7 +92,8 @@ pub record AreFound (about : CaseSystem) (Given : List (List Candidate) → Type
 abbrev pub RefusesThere : CaseSystem → (List (List Candidate) → Type 0) → Budget → EndFault → Type 0
 RefusesThere about Given budget e = (list : List Candidate) × AreFound about Given list × RefusesUnder about list budget e
 
--- why there is no certificate under rows that are found, where the proposers give what is told: also where it is not settled which they are
+-- why there is no certificate under rows that are found, where the proposers give what `Given` says: also where it is not settled which
+-- rows they are
 abbrev pub RefusesFound : CaseSystem → (List (List Candidate) → Type 0) → Budget → EndFault → Type 0
 RefusesFound about Given budget (Solve system e) = RefusesThere about Given budget (Solve system e)
 RefusesFound about Given budget (Cover f) = RefusesStrengthening about Given budget.pivots budget.splits f ⊎ RefusesThere about Given budget (Cover f)

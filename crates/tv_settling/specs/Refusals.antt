@@ -21,7 +21,7 @@ IsStepUnsettled about known budget f = (k : ℕ) × IsUnsettled about known budg
 abbrev pub IsStartUnsettled : CaseSystem → List Piece → Budget → CoverFault → Type 0
 IsStartUnsettled about known budget f = IsCoverFault about.variables (rows_at known about.start ∷ []) [] budget.pivots budget.splits f
 
--- it was not settled whether a whole point meets the rows that are known at the location
+-- it was not settled whether an integer point meets the rows that are known at the location
 abbrev pub IsPointUnsettled : CaseSystem → List Piece → ℕ → Budget → CoverFault → Type 0
 IsPointUnsettled about known location budget f = IsEmptyFault about.variables (rows_at known location) budget.pivots budget.splits f
 

@@ -51,7 +51,7 @@ pub fn first_end(
     }
 }
 
-/// A question of whole points was not settled, or there is no memory.
+/// A question of integer points was not settled, or there is no memory.
 fn uncovered(fault: CoverFault) -> EndFault
     ensures { result ≡ handed_on fault }
 {

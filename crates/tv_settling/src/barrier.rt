@@ -10,7 +10,7 @@ use tv_cases::Cases;
 use tv_farkas::Budget;
 use tv_linear::Region;
 
-/// Rows that are known at the locations: no case leads out of them, and no whole point meets those at the location.
+/// Rows that are known at the locations: no case leads out of them, and no integer point meets those at the location.
 #[derive(Drop)]
 pub struct Barrier<'a> {
     pub about: &'a Cases,

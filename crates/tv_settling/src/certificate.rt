@@ -49,9 +49,9 @@ fn barrier_certificate(
     Ok(proved_certificate(alloc, barrier.about, claim, node, start)?)
 }
 
-/// The certificate that no run comes to the location, made of an inductive list of rows of which no whole point meets those at the location.
+/// The certificate that no run comes to the location, made of an inductive list of rows. No integer point meets the rows at the location.
 ///
-/// The known states are those that meet the rows where they are, of which those are left out that others imply. Such covers show that
+/// The known states are those that meet the rows where they are. Rows that others imply are left out. Such covers show that
 /// they are closed: of the start, of each step over a case, and of the location, where they are none.
 pub fn safety_certificate(
     alloc: Global,

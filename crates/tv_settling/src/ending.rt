@@ -1,4 +1,4 @@
-// That every run ends, under rows that are found.
+// The certificate that every run ends, under rows that are found.
 
 ghost use Rattle.std.specs.Prelude.{◌≡◌, ◌≤◌, IfOk};
 ghost use Rattle.std.specs.Result.{IfErr};

@@ -11,7 +11,7 @@ pub enum EndFault {
         system: Name,
         fault: SolveFault,
     },
-    /// A question of whole points was not settled, while rows that hold on every run were looked for, or shown to hold.
+    /// A question of integer points was not settled, while rows that hold on every run were looked for, or shown to hold.
     Cover {
         fault: CoverFault,
     },

@@ -13,7 +13,7 @@ use tv_farkas::CoverFault;
 use tv_lexrank::{known_at, narrow_tree};
 use tv_points::bare_proof;
 
-/// The proof at the location itself, where no whole point meets the rows that are known there.
+/// The proof at the location itself, where no integer point meets the rows that are known there.
 fn empty_proof(alloc: Global, barrier: &Barrier) -> Result<Proof, CoverFault>
     ensures shows { IfOk result (IsHoldProof barrier.now barrier.now.location) }
     ensures refusals { IfErr result (Refuses barrier.now) }

@@ -1,5 +1,5 @@
 //! Certificates that settle what is claimed: that every run ends, by ranks alone or under rows that every run keeps to, and that no run comes
-//! to a location, by rows that every run keeps to and that no whole point meets there.
+//! to a location, by rows that every run keeps to and that no integer point meets there.
 #![tactic(auto)]
 
 mod attempts;

@@ -80,7 +80,7 @@ obligations_counted about f root verdict h =
     let b = entries_counted 0 about.system (stated about.tests f) root h in
     omega (arith, a, b)
 
--- what is told where there is an answer
+-- what holds where there is an answer
 pub told : (o : Option ℕ) (holds : Type 0) (n : ℕ) → is_some o ≡ true → SomeIff o holds n → holds
 told None holds n e h = absurd (let k : ⊥ = cc in k)
 told (Some m) holds n e h = h.0

@@ -15,8 +15,8 @@ use Rattle.tv_shape.specs.declared.certificate.Certificate.{Certificate}
 use Rattle.tv_shape.specs.declared.fault.ShapeFault.{ShapeFault}
 use Rattle.tv_shape.specs.declared.fault.ShapeFault.TheVariants as fault
 
--- The certificate fits the formula, and tells its kinds and its obligations. Its nodes and its obligations can be numbered by 32 and
--- 64 bits.
+-- The certificate fits the formula, and says what its kinds are and how many obligations it has. Its nodes and its obligations can
+-- be numbered by 32 and 64 bits.
 pub record IsOf (about : About) (f : Property) (c : Certificate) : Type 0 where
   pub fits : Fits about f c.root c.verdict
   pub named : c.kinds.items ≡ kinds_stated (stated about.tests f)

@@ -39,7 +39,7 @@ abbrev pub VerdictNarrow : Verdict → Type 0
 VerdictNarrow (Proved tree) = CoverNarrow tree
 VerdictNarrow (Disproved k values) = CountNarrow k × AreNarrow values.items
 
--- the splits of the verdict lie no deeper than 384, of which the first has depth 1
+-- the splits of the verdict lie no deeper than 384; the first split has depth 1
 abbrev pub VerdictShallow : Verdict → Type 0
 VerdictShallow (Proved tree) = splits tree ≤ 384
 VerdictShallow (Disproved k values) = Unit {0}

@@ -14,7 +14,7 @@ use tv_cases::{Case, Cases};
 use tv_cert::{Choosing, Take, Targets, targets_after};
 use tv_linear::{ChoiceTree, Cover, Row, have_columns};
 
-/// Whether the target after the case owes so many rows.
+/// Whether the target after the case owes `rows` rows.
 fn destination_owes_rows(choosing: &Choosing, case: &Case, take: &Take, rows: usize) -> bool
     ensures { let taken = case_view case.now in
         let system = cases_of choosing.now.about.now in
@@ -25,7 +25,7 @@ fn destination_owes_rows(choosing: &Choosing, case: &Case, take: &Take, rows: us
     targets.count(take.target, take.fall) == Some(rows)
 }
 
-/// Whether there are terms of so many columns for the draws of the case.
+/// Whether there are terms of `columns` columns for the draws of the case.
 fn draws_fit(columns: u32, case: &Case, draws: &[Row]) -> bool
     ensures { IsTrue result ↔ ((length draws.now ≡ case.now.draws) × All (λ r. columns_of r ≡ columns) draws.now) }
 {
@@ -90,7 +90,7 @@ fn no_step_has_shape(
     covers.len() <= k
 }
 
-/// Whether the choice has the shape that is owed at a place with so many known rows.
+/// Whether the choice has the shape that is owed at a place with `known` known rows.
 pub fn choice_has_shape(choosing: &Choosing, known: u128, tree: &ChoiceTree) -> bool
     requires { known + choice_splits tree.now < 2 ^ 65 }
     ensures { let system = cases_of choosing.now.about.now in

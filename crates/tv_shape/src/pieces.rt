@@ -6,7 +6,7 @@ ghost use Rattle.tv_cert.specs.Shapes.{PieceShape};
 use tv_cases::Cases;
 use tv_cert::{Mark, Marked};
 
-/// Whether the mark may stand there, with so many ranks.
+/// Whether the mark may stand there, in a node with `ranks` ranks.
 fn mark_has_ranks(piece: &Marked, ranks: u32, done: bool) -> bool
     ensures { IsTrue result ↔ ((length (ranks_of piece.now) ≡ (if goes piece.now then ranks else 0)) × (done ≡ false → goes piece.now ≡ true)) }
 {
@@ -16,7 +16,7 @@ fn mark_has_ranks(piece: &Marked, ranks: u32, done: bool) -> bool
     }
 }
 
-/// Whether it has the shape of a piece of a node with so many ranks, which may be done where `done` is true.
+/// Whether it has the shape of a piece of a node with `ranks` ranks; the piece may be done where `done` is true.
 pub fn piece_has_shape(about: &Cases, piece: &Marked, ranks: u32, done: bool) -> bool
     ensures { IsTrue result ↔ PieceShape (cases_of about.now) ranks done piece.now }
 {

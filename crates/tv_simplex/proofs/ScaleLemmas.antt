@@ -162,7 +162,7 @@ not_below p q h = elim (cases_lt p q) [ inl g ↦ absurd (h g) | inr g ↦ g ]
 pub scaled_up : (s k x : ℕ) → s ≤ k → s * x ≤ k * x
 scaled_up s k x h = grind arith
 
--- a whole number that is too great is so for each greater scale
+-- an integer that is too great is so for each greater scale
 pub no_scale_at : (fractions : List Fraction) (scale j : ℕ) (f : Fraction) (whole : ℤ) → j < length fractions → ratio f ≡ ratio_at fractions j → IsCommon fractions (length fractions) scale → IsTimes f (pos scale) whole → 2 ^ 62 ≤ unsigned_abs whole → HaveScale fractions → ⊥
 no_scale_at fractions scale j f whole l e c t wide h =
     let x = unsigned_abs (numerator_at fractions j) in
@@ -178,7 +178,7 @@ no_scale_at fractions scale j f whole l e c t wide h =
     let s = h.short j l in
     absurd (omega (arith, m, wide, s))
 
--- one more whole number
+-- one more integer
 pub scaled_more : (fractions : List Fraction) (scale n : ℕ) (f : Fraction) (whole : ℤ) (numbers new : List ℤ) → n < length fractions → ratio f ≡ ratio_at fractions n → IsTimes f (pos scale) whole → unsigned_abs whole < 2 ^ 62 → new ≡ numbers ++ whole ∷ [] → length numbers ≡ n →
     ((j : ℕ) → j < n → get_or numbers j (pos 0) *ℤ denominator_at fractions j ≡ pos scale *ℤ numerator_at fractions j) → ((j : ℕ) → j < n → unsigned_abs (get_or numbers j (pos 0)) < 2 ^ 62) →
     (length new ≡ n + 1) × ((j : ℕ) → j < n + 1 → get_or new j (pos 0) *ℤ denominator_at fractions j ≡ pos scale *ℤ numerator_at fractions j) × ((j : ℕ) → j < n + 1 → unsigned_abs (get_or new j (pos 0)) < 2 ^ 62)

@@ -76,7 +76,7 @@ same_ratio x d z e s h g =
 at_least_own : (x d : ℕ) → 0 < d → x ≤ x * d
 at_least_own x d h = grind arith
 
--- a whole number that is a narrow fraction is narrow
+-- an integer that is a narrow fraction is narrow
 whole_narrow : (z e s : ℤ) → pos 0 <ℤ s → z *ℤ s ≡ e *ℤ pos 1 → HasNarrow e s → IsNarrow z
 whole_narrow z e s p h n =
     let b : z *ℤ s ≡ e = (let o : e *ℤ pos 1 ≡ e = omega (arith, ints) in h ∙ o) in

@@ -51,7 +51,7 @@ zero_under s k l j low high = matrix_other s k j l low (omega (arith, l, high)) 
 pub zero_over : (s : Equations) (k : ℕ) → k < s.rows → AreZero (matrix s k) (s.columns + k + 1) (s.columns + s.rows)
 zero_over s k l j low high = matrix_other s k j l (omega (arith, low)) (omega (arith, high)) (λ e. absurd (omega (arith, high, e))) (λ e. absurd (omega (arith, low, e)))
 
--- ---- rows of whole numbers
+-- ---- rows of integers
 pub number_none : (numbers : ℕ → ℤ) (j : ℕ) → numbers j ≡ pos 0 → IsNumber numbers j none
 number_none numbers j e = record { positive = omega (arith, ints); same = ap (λ z. z *ℤ pos 1) (sym e) }
 

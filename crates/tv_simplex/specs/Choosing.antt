@@ -15,7 +15,7 @@ pub record IsFirstNegative (row : ℕ → Ratio) (n c : ℕ) : Type 0 where
   pub negative : (row c).numerator <ℤ pos 0
   pub first : NoneNegative row c
 
--- the numbers v over the scale are the fractions of the row, of which there are n + m + 1
+-- the numbers v over the scale are the `last + 1` fractions of the row
 abbrev pub IsPicture : ℕ → (ℕ → Ratio) → (ℕ → ℤ) → ℤ → Type 0
 IsPicture last row v scale = (j : ℕ) → j ≤ last → IsRatio (row j) (v j) scale
 

@@ -16,7 +16,7 @@ abbrev pub AreOrdered : ℕ → ℕ → List Kept → Type 0
 AreOrdered first end [] = Unit {0}
 AreOrdered first end (k ∷ ks) = (first ≤ k.place) × (k.place < end) × AreOrdered (k.place + 1) end ks
 
--- of the numbers from one on to below another, of which number 0 has this place, those that are not 0 are kept
+-- of the numbers from `first` to below `end`, those that are not 0 are kept; number 0 has the place `start`
 pub record AreKept (numbers : ℕ → ℤ) (start first end : ℕ) (kept : List Kept) : Type 0 where
   pub ordered : AreOrdered (start + first) (start + end) kept
   pub same : (j : ℕ) → first ≤ j → j < end → number_in kept (start + j) ≡ numbers j

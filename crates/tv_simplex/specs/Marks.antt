@@ -7,7 +7,7 @@ use Rattle.tv_simplex.specs.Rows.{none, entry_in, row_of}
 abbrev pub class_of : ℕ → ℕ
 class_of column = column % 64
 
--- where the bit of a class is 0, the row has 0 in each column of this class, of so many columns
+-- where the bit of a class is 0, the row has 0 in each of the first `columns` columns that is of this class
 abbrev pub AreMarksOf : ℕ → List Entry → ℕ → Type 0
 AreMarksOf columns row marks = (column : ℕ) → column < columns → bit_at marks (class_of column) ≡ 0 → entry_in row column ≡ none
 

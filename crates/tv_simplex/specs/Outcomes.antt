@@ -89,7 +89,7 @@ pub record GivesBarrier (s : Equations) (y : List ℤ) : Type 0 where
 
 -- ---- refusals
 
--- the entry of a tableau in a row, of which the last is the objective
+-- the entry of a tableau in a row; the last row is the objective
 abbrev pub full_entry : (s : Equations) (basis : List ℕ) → TableauOf s basis → ℕ → ℕ → ℤ
 full_entry s basis x i j =
     cond (nat_lt i s.rows) (x.entry i j) (objective (matrix s) s.rows s.columns (column basis) x j)
@@ -120,15 +120,15 @@ pub record IsFirstWide (s : Equations) (row column : ℕ) : Type 0 where
   pub wide : IsNarrow (given s row column) → ⊥
   pub before : (k j : ℕ) → k < s.rows → IsGivenColumn s j → (k < row) ⊎ ((k ≡ row) × (j < column)) → IsNarrow (given s k j)
 
--- so many bases of the chain, and none of them settles the system
+-- `many` bases of the chain, and none of them settles the system
 pub record AreUnsettled (s : Equations) (many : ℕ) : Type 0 where
   pub bases : List (List ℕ)
   pub as_many : length bases ≡ many
   pub first : (bases ≡ []) ⊎ IsChain (matrix s) s.rows s.columns bases
   pub unsettled : AllByRecursion (λ b. (x : TableauOf s b) → Settles (matrix s) s.rows s.columns (column b) x → ⊥) bases
 
--- a whole scale above 0 makes each of the first n numbers, over their denominator, whole; the scale and the
--- whole numbers are short
+-- an integer scale above 0 makes each of the first n numbers, over their denominator, an integer; the scale and
+-- these integers are short
 pub record HasScale (n : ℕ) (number : ℕ → ℤ) (denominator : ℤ) : Type 0 where
   pub scale : ℤ
   pub whole : ℕ → ℤ

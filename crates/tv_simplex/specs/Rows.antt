@@ -40,7 +40,7 @@ abbrev pub IsSparse : ℕ → ℕ → List Entry → Type 0
 IsSparse first end [] = Unit {0}
 IsSparse first end (e ∷ es) = IsEntry first end e × IsSparse (e.column + 1) end es
 
--- a sparse row of so many columns, whose fraction in each of them keeps the rule
+-- a sparse row of `width` columns, whose fraction in each of them keeps the rule
 pub record IsRow (rule : ℕ → Ratio → Type 0) (width : ℕ) (row : List Entry) : Type 0 where
   pub sparse : IsSparse 0 width row
   pub each : (j : ℕ) → j < width → rule j (entry_in row j)

@@ -54,11 +54,11 @@ pub record IsLarger (a b scale : ℕ) : Type 0 where
 abbrev pub HasNoLarger : ℕ → ℕ → Type 0
 HasNoLarger a b = (k : ℕ) → 0 < k → a ∣ k → b ∣ k → 2 ^ 62 ≤ k
 
--- the whole number is the fraction times the scale
+-- the integer is the fraction times the scale
 abbrev pub IsTimes : Fraction → ℤ → ℤ → Type 0
 IsTimes f scale whole = whole *ℤ f.denominator ≡ scale *ℤ f.numerator
 
--- the whole numbers are the fractions times the scale, and all are short
+-- the integers are the fractions times the scale, and all are short
 pub record AreScaled (fractions : List Fraction) (numbers : List ℤ) (scale : ℤ) : Type 0 where
   pub as_many : length numbers ≡ length fractions
   pub positive : pos 0 <ℤ scale

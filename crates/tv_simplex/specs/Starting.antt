@@ -32,7 +32,7 @@ first_objective s j = cost s.rows s.columns j -ℤ total s.rows (λ k. matrix s 
 abbrev pub first_slot : Equations → ℕ → ℕ
 first_slot s k = cond (nat_lt k s.columns) k (last s)
 
--- the fraction is this whole number of the column
+-- the fraction is this integer of the column
 abbrev pub IsNumber : (ℕ → ℤ) → ℕ → Ratio → Type 0
 IsNumber numbers j f = IsRatio f (numbers j) (pos 1)
 

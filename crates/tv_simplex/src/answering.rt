@@ -138,7 +138,7 @@ fn barrier(alloc: Global, system: &System, table: &Table) -> Result<Answer, Stop
 }
 
 /// Whether each artificial column of the basis has the value 0. The right side of the objective is 0 less the sum of
-/// these values, of which none is below 0.
+/// these values. None of them is below 0.
 fn is_solved(system: &System, table: &Table) -> bool
     requires whole { IsWhole (equations system.now) }
     requires stands { Stands (equations system.now) table.now }

@@ -12,7 +12,7 @@ pub struct Kept {
     pub number: i128,
 }
 
-/// The entries of linear equations, row by row, of which those that are not 0 are kept.
+/// The entries of linear equations, row by row. Only those that are not 0 are kept.
 #[derive(Drop)]
 pub struct Entries {
     kept: Vec<Kept>,
@@ -30,8 +30,8 @@ impl Model for Entries {
     ghost invariant = { λ e. AreOrdered 0 e.length e.kept.items };
 }
 
-/// How many of the numbers stand before the place. Each has a place of its own, so where at most so many places lie from
-/// the first number's to this one, only so many numbers are searched.
+/// How many of the numbers stand before the place. Each has a place of its own, so where at most `most` places lie from
+/// the first number's to this one, only the first `most` numbers are searched.
 fn count_before(kept: &[Kept], place: usize, most: usize) -> usize
     ensures inside { result ≤ length kept.now }
     ensures front { (first end : ℕ) → AreOrdered first end kept.now → AreOrdered first place (take result kept.now) }
@@ -76,7 +76,7 @@ impl Entries {
         Ok(())
     }
 
-    /// Puts so many zeros at the end. It takes no memory, and no time for each.
+    /// Puts `count` zeros at the end. It takes no memory, and no time for each.
     pub fn push_zeros(&mut self, count: u32)
         requires { length self.old < 2 ^ 32 }
         ensures { self.new ≡ self.old ++ zeros count }
@@ -84,13 +84,13 @@ impl Entries {
         self.length += count as usize;
     }
 
-    /// The numbers that are kept of so many entries from a place on.
+    /// The numbers that are kept of the `count` entries from `first` on.
     pub(crate) fn stretch(&self, first: usize, count: usize) -> &[Kept]
         requires within { first + count ≤ length self.now }
         requires bounded { length self.now < 2 ^ 32 }
         ensures { AreKept (λ j. get_or self.now (first + j) (pos 0)) first 0 count result.now }
     {
-        // At most so many of the entries before the first are 0: the others are kept.
+        // At most `zeros` of the entries before `first` are 0. The others are kept.
         let zeros = self.length - self.kept.len();
         let passed = first.saturating_sub(zeros);
         let (_, near) = self.kept.split_at(passed);

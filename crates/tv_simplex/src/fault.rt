@@ -10,7 +10,7 @@ pub enum SolveFault {
         row: u32,
         column: u32,
     },
-    /// The last basis of the chain gives an answer that no scale brings to whole numbers below 2^62.
+    /// The last basis of the chain gives an answer that no scale brings to integers below 2^62.
     Scale {
         basis: Vec<u32>,
     },

@@ -27,7 +27,7 @@ fn with_mark(marks: u64, column: usize) -> u64
     marks | 1 << (column % CLASSES)
 }
 
-/// The marks of a row, of which only the first columns count. Where each class has one, the later entries are not read.
+/// The marks of a row. Only the first `columns` columns count. Where each class has one, the later entries are not read.
 fn marks_of(row: &[Entry], columns: usize) -> u64
     requires { (width : ℕ) × IsSparse 0 width row.now }
     ensures { AreMarksOf columns row.now result }
@@ -48,7 +48,7 @@ fn marks_of(row: &[Entry], columns: usize) -> u64
     marks
 }
 
-/// The marks of so many rows.
+/// The marks of the first `height` rows.
 pub fn first_marks(
     alloc: Global,
     rows: &[Vec<Entry>],

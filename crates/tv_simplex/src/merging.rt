@@ -31,8 +31,8 @@ fn copy_below<'a>(
     Ok(left)
 }
 
-/// Takes the factor times one entry of the pivot row from the entries, of which the later ones are left. There is
-/// nothing where what comes of it is not narrow.
+/// Takes the factor times one entry of the pivot row from the entries. Returns the entries behind
+/// its column, or nothing where the new number is not narrow.
 fn take_entry<'a>(
     entries: &'a [Entry],
     factor: &Fraction,

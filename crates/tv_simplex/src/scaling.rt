@@ -1,4 +1,4 @@
-// Fractions brought to whole numbers by one scale.
+// Fractions brought to integers by one scale.
 
 ghost use Rattle.std.specs.Prelude.{◌≡◌, ◌*◌, ◌^◌, ◌<◌, length, pos, ◌*ℤ◌, unsigned_abs, MatchOption, MatchResult};
 ghost use Prim.Native.Nat.{◌∣◌};
@@ -66,7 +66,7 @@ fn product(a: i128, b: u128) -> i128
     a * b as i128
 }
 
-/// The fraction times the scale, of which its denominator is a divisor.
+/// The fraction times the scale. Its denominator divides the scale.
 fn times(fraction: &Fraction, scale: u128) -> i128
     requires bounded { unsigned_abs (numerator_of fraction.now) < 2 ^ 41 }
     requires scale { scale < 2 ^ 62 }
@@ -79,7 +79,7 @@ fn times(fraction: &Fraction, scale: u128) -> i128
     )
 }
 
-/// The fractions as whole numbers below 2^62 over a scale below 2^62.
+/// The fractions as integers below 2^62 over a scale below 2^62.
 pub fn bring_to_scale(alloc: Global, fractions: &[Fraction]) -> Result<Scaled, Stop>
     requires { AreBounded fractions.now }
     ensures { MatchResult result

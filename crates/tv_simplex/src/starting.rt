@@ -31,7 +31,7 @@ pub fn artificial_basis(alloc: Global, system: &System) -> Result<Vec<u32>, Allo
     Ok(basis)
 }
 
-/// A whole number as a fraction.
+/// An integer as a fraction.
 fn whole(number: i128) -> Fraction
     requires { unsigned_abs number < 2 ^ 80 }
     ensures same { IsRatio (ratio result) number (pos 1) }

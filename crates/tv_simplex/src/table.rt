@@ -56,7 +56,7 @@ pub fn entry_at(table: &Table, row: usize, column: usize) -> Fraction
     fraction_in(row_at(&table.rows, row), column)
 }
 
-/// The fractions of so many rows in a column.
+/// The fractions of the first `height` rows in a column.
 pub fn column_of(
     alloc: Global,
     table: &Table,

@@ -37,7 +37,7 @@ fn step(
     }
 }
 
-/// Walks along the chain, for so many bases, to the first that settles the system. After a refusal the basis
+/// Walks along the chain, for at most `pivots` bases, to the first that settles the system. After a refusal the basis
 /// is the one that it speaks of.
 pub fn walk(
     alloc: Global,

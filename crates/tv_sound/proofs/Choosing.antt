@@ -122,7 +122,7 @@ module _ (n : ℕ) (cases : List LinearCase) (l : ℕ) (stop : Bool) (owed : Lin
 abbrev pub drawn : List ℤ → List Linear → List ℤ
 drawn xs draws = map (λ d. known_value xs (given d)) draws
 
-point_is : (n : ℕ) (xs : List ℤ) (draws : List Linear) → length xs ≡ n → map (term_value xs) (draw_terms n draws) ≡ xs ++ drawn xs draws
+pub point_is : (n : ℕ) (xs : List ℤ) (draws : List Linear) → length xs ≡ n → map (term_value xs) (draw_terms n draws) ≡ xs ++ drawn xs draws
 point_is n xs draws e = map-append (term_value xs) (table n (λ j. kept j)) (map (λ d. put d) draws) ∙ (λ i. kept_values n xs e i ++ draw_values xs draws i)
 
 met-chosen : (pt : List ℤ) (inner outer : List Term) (rows : List Linear) → All (IsKnownMet pt) (map (λ r. composed (composed (given r) inner) outer) rows) → All (IsKnownMet (map (term_value pt) outer)) (map (λ r. composed (given r) inner) rows)

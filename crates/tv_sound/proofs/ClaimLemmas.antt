@@ -1,6 +1,7 @@
 -- What the certificate of a claim says all of whose obligations are met.
-use Rattle.std.proofs.Common.{◌≡◌, ℕ, ◌+◌, ◌++◌, ◌∷◌, [], ◌<◌, ◌^◌, OnOk, Result, Ok, Err, List, length, arith, sym, ap, subst, ◌∙◌, length-append}
+use Rattle.std.proofs.Common.{◌≡◌, ℕ, ◌+◌, ◌++◌, ◌∷◌, [], ◌<◌, ◌^◌, OnOk, Result, Ok, Err, Vec, ℤ, List, length, arith, sym, ap, subst, ◌∙◌, length-append}
 use Rattle.std.specs.Prelude.{MatchResult}
+use Rattle.std.specs.Global.{Global}
 use Rattle.tv_program.specs.Systems.{System}
 use Rattle.tv_formula.specs.Normal.{normal, negation}
 use Rattle.tv_formula.specs.Properties.{Property, term}
@@ -29,7 +30,8 @@ use Rattle.tv_cert.proofs.StatedLemmas.{root_same}
 use Rattle.tv_sound.specs.Following.{FollowsFrom}
 use Rattle.tv_sound.specs.Settled.{IsSettled}
 use Rattle.tv_sound.proofs.Ending.{ends_negated}
-use Rattle.tv_sound.proofs.Claimed.{shown_of, ValuesCounted, claim_sound, claim_followed}
+use Rattle.tv_sound.proofs.Claimed.{shown_of, ValuesCounted, claim_sound, claim_taken}
+use Rattle.tv_sound.proofs.Following.{TakesAlong}
 
 -- ---- the obligations by the statement of the root
 
@@ -90,14 +92,18 @@ module _ (p : System) (system : CaseSystem) (of_program : IsOfProgram p system) 
       (subst (λ g. AllMet (obligations (about_with system) g c.root c.verdict)) e met)
       (counted system (pieces_of c.root) c.verdict fits.fits.said.shape)
 
-  pub follows : (verdict : Verdict) → c.verdict ≡ verdict → (f : Property) → IsClaim claim f → normal f ≡ term → FollowsFrom p system c.root verdict
-  follows (Proved start) e f h n = tt
-  follows (Disproved k values) e f h n =
+  -- what is taken along the run, where the property is that all runs end and it is disproved
+  pub takes_along : (k : ℕ) (values : Vec ℤ Global) → c.verdict ≡ Disproved k values → (f : Property) → IsClaim claim f → normal f ≡ term → TakesAlong p system c.root k values.items
+  takes_along k values e f h n =
       let shows : AllMet (obligations (about_with system) (negation f) c.root (Disproved k values)) =
       subst (λ v. AllMet (obligations (about_with system) (shown_of f v) c.root v)) e (subst (λ g. AllMet (obligations (about_with system) g c.root c.verdict)) (shown_is claim f c.verdict h) met) in
-      claim_followed p system of_program steps c.root k values
+      claim_taken p system of_program steps c.root k values
       (subst (λ g. AllMet (obligations (about_with system) g c.root (Disproved k values))) (ends_negated f n) shows)
       (subst (ValuesCounted system.variables) e (counted system (pieces_of c.root) c.verdict fits.fits.said.shape))
+
+  pub follows : (verdict : Verdict) → c.verdict ≡ verdict → (f : Property) → IsClaim claim f → normal f ≡ term → FollowsFrom p system c.root verdict
+  follows (Proved start) e f h n = tt
+  follows (Disproved k values) e f h n = (takes_along k values e f h n).follows
 
 pub on_ok : (A B : Type 0) (P : Failing → Type 0) (result : Result (Unit {0}) Failing) → MatchResult result (λ done. A) P → (A → B) → OnOk result B
 on_ok A B P (Ok done) h f = f h

@@ -17,12 +17,12 @@ use Rattle.tv_cert.specs.Obligations.{AllMet, PointMet, paired}
 use Rattle.tv_cert.specs.Nodes.{kid_pieces, parts, kid_entries, entries, obligations, own_of}
 use Rattle.tv_cert.specs.Fits.{NodeFits}
 use Rattle.tv_cert.proofs.PieceLemmas.{piece_got}
-use Rattle.tv_sound.specs.Following.{Spot, offered, offered_at, all_offered, onward, followed, Follows}
-use Rattle.tv_program.specs.Runs.{IsRun}
+use Rattle.tv_sound.specs.Following.{Spot, offered, offered_at, all_offered, TakesAt, onward, followed}
+use Rattle.tv_program.specs.Runs.{IsRun, follow}
 use Rattle.tv_cert.specs.declared.node.Proof.{Proof}
 use Rattle.tv_sound.specs.Settled.{IsSettled}
 use Rattle.tv_sound.proofs.NodesSound.{AllMet-left, AllMet-right}
-use Rattle.tv_sound.proofs.Following.{first_got, among-filter, pieces_there, runs_on, Stands}
+use Rattle.tv_sound.proofs.Following.{first_got, among-filter, pieces_there, runs_on, Stands, stands_after, takes, TakesAlong}
 use Rattle.tv_sound.proofs.Soundness.{root_met, proved_sound, disproved_sound, comparisons_show}
 use Rattle.tv_linear.proofs.ListLaws.{contains_at}
 
@@ -45,9 +45,9 @@ module _ (p : System) (system : CaseSystem) (of_program : IsOfProgram p system) 
   }
 
   -- where the property is that all runs end, and it is disproved, an endless run is followed
-  followed_from : (root : Node) (qs : List Marked) (proofs : List Proof) → all_offered root ≡ offered qs proofs → (k : ℕ) (xs : List ℤ) → length xs ≡ system.variables → AllMet (paired (own_of 0 (about_with system) (negated term) qs []) proofs) → (o : Option Marked) → slice_get (pieces_at qs system.start) k ≡ o → PointMet xs (option_map rows_of o) → Follows p system root k xs
-  followed_from root qs proofs same k xs counted met None e h = absurd h
-  followed_from root qs proofs same k xs counted met (Some q) e h =
+  taken_from : (root : Node) (qs : List Marked) (proofs : List Proof) → all_offered root ≡ offered qs proofs → (k : ℕ) (xs : List ℤ) → length xs ≡ system.variables → AllMet (paired (own_of 0 (about_with system) (negated term) qs []) proofs) → (o : Option Marked) → slice_get (pieces_at qs system.start) k ≡ o → PointMet xs (option_map rows_of o) → TakesAlong p system root k xs
+  taken_from root qs proofs same k xs counted met None e h = absurd h
+  taken_from root qs proofs same k xs counted met (Some q) e h =
       let about = about_with system in
       let all = offered qs proofs in
       let got = piece_got qs system.start k q e in
@@ -59,16 +59,20 @@ module _ (p : System) (system : CaseSystem) (of_program : IsOfProgram p system) 
         wide = counted;
       } in
       record {
-        first = first;
-        piece = ap (λ os. slice_get (offered_at os system.start) k) same ∙ o.1;
-        begins = refl;
-        runs = λ n. subst (λ os. IsRun (Steps p) first.state (followed (onward system os) first n)) (sym same)
-            (runs_on about qs proofs 0 met (Steps p) (λ s t wide step. (steps s t (wide ∙ of_program.variables)).1 step) first stands n);
+        follows = record {
+          first = first;
+          piece = ap (λ os. slice_get (offered_at os system.start) k) same ∙ o.1;
+          begins = refl;
+          runs = λ n. subst (λ os. IsRun (Steps p) first.state (followed (onward system os) first n)) (sym same)
+              (runs_on about qs proofs 0 met (Steps p) (λ s t wide step. (steps s t (wide ∙ of_program.variables)).1 step) first stands n);
+        };
+        takes = λ i. subst (λ os. TakesAt system os (follow (onward system os) first i)) (sym same)
+            (takes about qs proofs 0 met (follow (onward system all) first i) (stands_after about qs proofs 0 met first stands i));
       }
 
-  pub claim_followed : (root : Node) (k : ℕ) (values : _) → AllMet (obligations (about_with system) (negated term) root (Disproved k values)) → length values.items ≡ system.variables → Follows p system root k values.items
-  claim_followed (Node' ps m shape kids proofs) k values met counted =
+  pub claim_taken : (root : Node) (k : ℕ) (values : _) → AllMet (obligations (about_with system) (negated term) root (Disproved k values)) → length values.items ≡ system.variables → TakesAlong p system root k values.items
+  claim_taken (Node' ps m shape kids proofs) k values met counted =
       let about = about_with system in
       let root = Node' ps m shape kids proofs in
       let own = AllMet-right (kid_entries 1 about (parts (negated term)) kids) (paired (own_of 0 about (negated term) ps (kid_pieces kids)) proofs.items) (AllMet-left (entries 0 about (negated term) root) _ met) in
-      followed_from root ps proofs.items refl k values.items counted own (slice_get (pieces_at ps system.start) k) refl (root_met about (negated term) root (Disproved k values) met)
+      taken_from root ps proofs.items refl k values.items counted own (slice_get (pieces_at ps system.start) k) refl (root_met about (negated term) root (Disproved k values) met)

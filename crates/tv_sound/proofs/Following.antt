@@ -1,6 +1,7 @@
 -- Following the choices of a node that shows an endless run.
-use Rattle.std.proofs.Common.{◌≡◌, ℕ, zero, suc, List, [], ◌∷◌, ◌++◌, length, All, map, Option, None, Some, Bool, true, false, IsTrue, arith, cond, refl, subst, sym, ap, ◌∙◌, ℤ, pos, ◌≤ℤ◌, ◌-ℤ◌, slice_get, ◌==◌}
+use Rattle.std.proofs.Common.{◌≡◌, ℕ, zero, suc, List, [], ◌∷◌, ◌++◌, length, All, map, Option, None, Some, Vec, Bool, true, false, IsTrue, arith, cond, refl, subst, sym, ap, ◌∙◌, ℤ, pos, ◌≤ℤ◌, ◌-ℤ◌, slice_get, ◌==◌}
 use Rattle.std.specs.Prelude.{Contains, if◌then◌else◌}
+use Rattle.std.specs.Global.{Global}
 use Rattle.std.specs.List.{filter, flat_map}
 use Rattle.std.specs.Option.{option_map}
 use Rattle.std.specs.Int.RustNames.{int_le}
@@ -8,14 +9,16 @@ use Rattle.std.proofs.lemmas.Int.{ints}
 use Rattle.std.proofs.lemmas.Option.{slice_get-map}
 use Rattle.std.proofs.lemmas.List.Elements.{All-push}
 use Rattle.tv_linear.specs.declared.choice.ChoiceTree.{ChoiceTree, Split', Empty, NoStep, Take}
-use Rattle.tv_linear.specs.Linear.{Linear, value}
+use Rattle.tv_linear.specs.Linear.{Linear, value, IsMet}
 use Rattle.tv_linear.specs.Known.{Known, given, denied, term_value, IsKnownMet, as_given}
-use Rattle.tv_linear.specs.Terms.{terms_after}
-use Rattle.tv_linear.proofs.KnownLemmas.{refuted, value-denied, value-given}
+use Rattle.tv_linear.specs.Terms.{terms_after, draw_terms}
+use Rattle.tv_linear.proofs.KnownLemmas.{refuted, value-denied, value-given, met-as_given}
 use Rattle.tv_program.specs.Steps.{State}
+use Rattle.tv_program.specs.Systems.{System}
 use Rattle.tv_program.specs.Runs.{IsRun, last_of, follow}
 use Rattle.tv_cases.specs.LinearCases.{LinearCase, CaseSystem, CaseSteps}
 use Rattle.tv_cert.specs.declared.node.Marked.{Marked}
+use Rattle.tv_cert.specs.declared.node.Node.{Node}
 use Rattle.tv_cert.specs.declared.node.Proof.{Proof}
 use Rattle.tv_cert.specs.declared.node.Proof.TheVariants.{Covered, Chosen}
 use Rattle.tv_cert.specs.Pieces.{place_of, rows_of, InMarked, pieces_at}
@@ -25,9 +28,9 @@ use Rattle.tv_cert.specs.Obligations.{About, Obligation, AllMet, OwedMet, choice
 use Rattle.tv_cert.specs.declared.node.Kind.TheVariants as kind
 use Rattle.tv_cert.proofs.PieceLemmas.{piece_got}
 use Rattle.tv_cases.proofs.ContainsLemmas.{Contains-later}
-use Rattle.tv_sound.specs.Following.{Spot, offered, offered_at, chosen_at, after_case, entering, taking, going, onward, followed}
-use Rattle.tv_sound.proofs.Entering.{Entered, joined_is, seen, wide_after}
-use Rattle.tv_sound.proofs.Choosing.{Taken, TakenInto, taken_into, Stepped, taken_step, stepped_in, drawn}
+use Rattle.tv_sound.specs.Following.{Spot, offered, all_offered, offered_at, Follows, chosen_at, TakesAt, after_case, entering, taking, going, onward, followed}
+use Rattle.tv_sound.proofs.Entering.{Entered, joined_is, seen, met-after, wide_after}
+use Rattle.tv_sound.proofs.Choosing.{Taken, TakenInto, taken_into, Stepped, taken_step, stepped_in, drawn, point_is}
 use Rattle.tv_linear.proofs.ListLaws.{all_back, all_front, contains_at}
 use Rattle.tv_cases.proofs.SameSteps.{at_most-true}
 use Rattle.tv_cases.proofs.OptionLemmas.{some_same}
@@ -202,12 +205,71 @@ module _ (about : About) (ps : List Marked) (proofs : List Proof) (number : ℕ)
       let at = led n about.system.cases s.location (into about ps) s.values known tree (subst (λ l. IsMetChoice n about.system.cases l false (into about ps) known tree) (sym h.inside.place) m) (seen p s h.inside) in
       by_end p (Chosen tree) s h.wide (chosen_at s.values tree) at
 
+  -- ---- what is taken
+
+  module _ (p : Marked) (tree : ChoiceTree) (s : State) (wide : length s.values ≡ n) where
+    abbrev standing : Spot
+    standing = record { piece = p; proof = Chosen tree; state = s }
+
+    abbrev values_drawn : List Linear → List ℤ
+    values_drawn draws = map (λ d. value d s.values) draws
+
+    guards_met : (c : LinearCase) (k : ℕ) (draws : List Linear) → TakenInto n s.location (into about ps) s.values c draws k → All (IsMet (s.values ++ values_drawn draws)) c.guards
+    guards_met c k draws t =
+        let at : map (term_value s.values) (draw_terms n draws) ≡ s.values ++ values_drawn draws = point_is n s.values draws wide ∙ ap (λ ds. s.values ++ ds) (drawn_values s.values draws) in
+        (met-as_given (s.values ++ values_drawn draws) c.guards).1
+        (subst (λ pt. All (IsKnownMet pt) (as_given c.guards)) at (met-after s.values (draw_terms n draws) c.guards t.guards))
+
+    takes_into : (i k j : ℕ) (draws : Vec Linear Global) (lists : Vec (Vec ℤ Global) Global) → chosen_at s.values tree ≡ Take i k j draws lists → (c : LinearCase) → slice_get about.system.cases i ≡ Some c → (t : TakenInto n s.location (into about ps) s.values c draws.items k) → (q : Option Marked) → slice_get (pieces_at ps c.to) k ≡ q → TakesAt about.system all standing
+    takes_into i k j draws lists ends c g t None e = absurd (none_is t.rows (subst (λ x. target_rows (drawn_change n c draws.items) no_fall x t.fall ≡ Some t.rows) e t.owes))
+    takes_into i k j draws lists ends c g t (Some q) e =
+        let o = first_got (offered_at all c.to) k q (ap (λ xs. slice_get xs k) (pieces_there c.to) ∙ e) in
+        record {
+          tree = tree;
+          chosen = refl;
+          number = i;
+          target = k;
+          fall = j;
+          draws = draws;
+          lists = lists;
+          ends = ends;
+          taken = c;
+          is = g;
+          from = t.from;
+          many = t.many;
+          wide = wide;
+          guards = guards_met c k draws.items t;
+          entered = (q, o.0);
+          offers = o.1;
+        }
+
+    takes_case : (known : List Known) (i k j : ℕ) (draws : Vec Linear Global) (lists : Vec (Vec ℤ Global) Global) → chosen_at s.values tree ≡ Take i k j draws lists → All (IsKnownMet s.values) known → (c : Option LinearCase) → slice_get about.system.cases i ≡ c → TakeMet n s.location (into about ps) known c k j draws.items (map (λ x. x.items) lists.items) → TakesAt about.system all standing
+    takes_case known i k j draws lists ends a None g h = absurd h
+    takes_case known i k j draws lists ends a (Some c) g h =
+        takes_into i k j draws lists ends c g (taken_into n s.location (into about ps) known s.values c k j draws.items (map (λ x. x.items) lists.items) h wide a) (slice_get (pieces_at ps c.to) k) refl
+
+    takes_end : (leaf : ChoiceTree) → chosen_at s.values tree ≡ leaf → Led n about.system.cases s.location (into about ps) s.values leaf → TakesAt about.system all standing
+    takes_end (Split' r p' a q b) ends h = absurd h.end
+    takes_end (Empty ms) ends h = absurd (refuted n h.known ms.items s.values h.met wide h.all)
+    takes_end (NoStep covers) ends h = absurd (never h.met.0)
+    takes_end (Take i k j draws lists) ends h = takes_case h.known i k j draws lists ends h.all (slice_get about.system.cases i) refl h.met
+
+  takes_from : (p : Marked) (proof : Proof) (s : State) → Stands n all (record { piece = p; proof = proof; state = s }) → OwedMet (choice_of number kind.Choice about p false (into about ps)).owed (Some proof) → TakesAt about.system all (record { piece = p; proof = proof; state = s })
+  takes_from p (Covered tree) s h m = absurd m
+  takes_from p (Chosen tree) s h m =
+      let known = as_given (rows_of p) in
+      let at = led n about.system.cases s.location (into about ps) s.values known tree (subst (λ l. IsMetChoice n about.system.cases l false (into about ps) known tree) (sym h.inside.place) m) (seen p s h.inside) in
+      takes_end p tree s h.wide (chosen_at s.values tree) refl at
+
+  pub takes : (here : Spot) → Stands n all here → TakesAt about.system all here
+  takes here h = takes_from here.piece here.proof here.state h (offered_met about ps number ps proofs (here.piece, here.proof) met h.among)
+
   turns : (here : Spot) → Stands n all here → Turns about all here (onward about.system all here)
   turns here h = turns_from here.piece here.proof here.state h (offered_met about ps number ps proofs (here.piece, here.proof) met h.among)
 
   -- ---- many turns
 
-  stands_after : (first : Spot) → Stands n all first → (k : ℕ) → Stands n all (follow (onward about.system all) first k)
+  pub stands_after : (first : Spot) → Stands n all first → (k : ℕ) → Stands n all (follow (onward about.system all) first k)
   stands_after first h zero = h
   stands_after first h (suc k) = (turns (follow (onward about.system all) first k) (stands_after first h k)).stands
 
@@ -223,3 +285,10 @@ module _ (about : About) (ps : List Marked) (proofs : List Proof) (number : ℕ)
       let turn = turns (follow (onward about.system all) first k) stands in
       run_pushed step first.state (followed (onward about.system all) first k) (follow (onward about.system all) first (suc k)).state (runs_on step steps first h k)
       (subst (λ x. step x (follow (onward about.system all) first (suc k)).state) (sym (last_followed first k)) (steps (follow (onward about.system all) first k).state (follow (onward about.system all) first (suc k)).state stands.wide turn.step))
+
+-- ---- a whole run
+
+-- what is followed from the values in the piece of the root that is named, and what is taken at each of its spots
+pub record TakesAlong (p : System) (system : CaseSystem) (root : Node) (k : ℕ) (values : List ℤ) : Type 0 where
+  pub follows : Follows p system root k values
+  pub takes : (i : ℕ) → TakesAt system (all_offered root) (follow (onward system (all_offered root)) follows.first i)

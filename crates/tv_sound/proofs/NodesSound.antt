@@ -90,7 +90,7 @@ first_kid : (about : About) (f g : Property) (kids : List (List Marked)) → Kid
 first_kid about f g [] h = absurd h
 first_kid about f g (a ∷ kids) h = h.0
 
--- ---- a node for a fixed point
+-- ---- a node for a fixpoint
 module _ (number : ℕ) (about : About) (m : ℕ) (path : Path) (shape : Shape) (ps a b : List Marked) (proofs : List Proof) (f g : State → Type 0)
     (fits : (p : Marked) → Contains ps p → PieceFits about.system.variables m p)
     (widths : (p : Proof) → Contains proofs p → ProofFits about.system.variables p)

@@ -150,7 +150,7 @@ module _ (about : About) (m : ℕ) (ps : List Marked) (fits : (p : Marked) → C
   pub noterm_sound : ((p : Marked) → Contains ps p → HasChoice about.system.variables about.system.cases p false (choice_into about ps (λ c draws. no_fall))) → (s : State) → Placed about.system.variables ps s → Ends (CaseSteps about.system) s → ⊥
   noterm_sound choice s at h = Never_ends_by (Placed about.system.variables ps) (λ s at. let o = onward s at ps (choice at.piece at.among) in (o.next, o.step, o.into)) h at
 
-  -- ---- fixed points
+  -- ---- fixpoints
 
   module _ (f g : State → Type 0) (hold : (p : Marked) → Contains ps p → goes p ≡ true → (s : State) → length s.values ≡ about.system.variables → InMarked p s → f s) (done : (p : Marked) → Contains ps p → goes p ≡ false → (s : State) → length s.values ≡ about.system.variables → InMarked p s → g s) where
     holds_at : (s : State) (at : Placed about.system.variables ps s) → goes at.piece ≡ true → f s

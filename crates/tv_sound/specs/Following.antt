@@ -1,9 +1,10 @@
 -- The endless run that the choices of a certificate lead along, where they are those of a node which shows that some run is endless.
-use Rattle.std.specs.Prelude.{◌≡◌, ℕ, zero, suc, List, [], ◌∷◌, ◌++◌, map, ℤ, pos, slice_get, Option, None, Some, ◌==◌, if◌then◌else◌}
+use Rattle.std.specs.Prelude.{◌≡◌, ℕ, zero, suc, List, [], ◌∷◌, ◌++◌, map, ℤ, pos, slice_get, Option, None, Some, ◌==◌, if◌then◌else◌, All, length, Vec}
+use Rattle.std.specs.Global.{Global}
 use Rattle.std.specs.List.{filter}
 use Rattle.std.specs.Int.RustNames.{int_le}
 use Rattle.tv_linear.specs.declared.choice.ChoiceTree.{ChoiceTree, Split', Empty, NoStep, Take}
-use Rattle.tv_linear.specs.Linear.{Linear, value}
+use Rattle.tv_linear.specs.Linear.{Linear, value, IsMet}
 use Rattle.tv_linear.specs.Known.{term_value}
 use Rattle.tv_linear.specs.Terms.{terms_after}
 use Rattle.tv_program.specs.Steps.{State, Steps}
@@ -74,7 +75,27 @@ going_by system all (Chosen tree) here = going system all (chosen_at here.state.
 abbrev pub onward : CaseSystem → List (Marked × Proof) → Spot → Spot
 onward system all here = going_by system all here.proof here
 
--- the states after the first, after so many turns of a rule
+-- What is taken at a spot: where its choice leads, a case that is from its location, with as many draws as there are terms and all guards
+-- met at their values, and what is offered where the case enters.
+pub record TakesAt (system : CaseSystem) (all : List (Marked × Proof)) (here : Spot) : Type 0 where
+  pub tree : ChoiceTree
+  pub chosen : here.proof ≡ Chosen tree
+  pub number : ℕ
+  pub target : ℕ
+  pub fall : ℕ
+  pub draws : Vec Linear Global
+  pub lists : Vec (Vec ℤ Global) Global
+  pub ends : chosen_at here.state.values tree ≡ Take number target fall draws lists
+  pub taken : LinearCase
+  pub is : slice_get system.cases number ≡ Some taken
+  pub from : taken.from ≡ here.state.location
+  pub many : length draws.items ≡ taken.draws
+  pub wide : length here.state.values ≡ system.variables
+  pub guards : All (IsMet (here.state.values ++ map (λ d. value d here.state.values) draws.items)) taken.guards
+  pub entered : Marked × Proof
+  pub offers : slice_get (offered_at all taken.to) target ≡ Some entered
+
+-- the states after the first, for n turns of a rule
 abbrev pub followed : (Spot → Spot) → Spot → ℕ → List State
 followed rule here zero = []
 followed rule here (suc n) = followed rule here n ++ (follow rule here (suc n)).state ∷ []

@@ -27,7 +27,7 @@ use Rattle.tv_spelling.proofs.ProgramPieces.{kind_by, location_pieces, command_p
 
 -- ---- what some text of a program shows of its edges
 
--- the draws of a command are ordered, from so many on, and its text is not too deep
+-- the draws of a command are ordered, from number `draws` on, and its text is not too deep
 abbrev pub IsWritable : Instruction → ℕ → Type 0
 IsWritable (assume c) draws = IsOrderedTest c draws × IsLeast (is_regular_test c) (condition_levels c) 63
 IsWritable (assign v e) draws = IsOrdered e draws × IsLeast (is_regular e) (sum_levels e) 64
@@ -107,7 +107,7 @@ label_symbols : (v : Vocabulary) (t : Bool) (draws : ℕ) (u : Word) (l : ℕ) (
 label_symbols v true draws u l rest h = ap (λ o. numbered label o ∷ fixed Semicolon ∷ symbols_of v false draws rest) h
 label_symbols v false draws u l rest h = ap (λ o. numbered label o ∷ fixed Semicolon ∷ symbols_of v false draws rest) h
 
--- a location after a word, with so many draws from there on
+-- a location after a word; from there on the draws are numbered from `after`
 location_symbols : (v : Vocabulary) (kind : TokenKind) (w : List ℕ) (l draws after : ℕ) (rest : List Piece)
     → ((bs : List Piece) → symbols_of v false draws (word kind w ∷ word Colon (58 ∷ []) ∷ bs) ≡ fixed kind ∷ fixed Colon ∷ symbols_of v true after bs) → number_of (slice_index_or v.labels l []) v.labels ≡ Some l
     → symbols_of v false draws (location_pieces kind w v.labels l rest) ≡ fixed kind ∷ fixed Colon ∷ label l ∷ fixed Semicolon ∷ symbols_of v false after rest

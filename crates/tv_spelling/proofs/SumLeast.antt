@@ -31,7 +31,7 @@ further_fewer : (e : Expression) (es : Expressions) (n : ℕ) → part_levels e 
 further_fewer (minus e) es n h k = let f : part_levels e ≤ n = part_fewer e n (omega arith) in omega arith
 further_fewer e es n h k = omega arith
 
--- regular, and of so many levels at most
+-- regular, and of at most n levels
 abbrev pub IsLeast : Bool → ℕ → ℕ → Type 0
 IsLeast regular levels n = (regular ≡ true) × (levels ≤ n)
 

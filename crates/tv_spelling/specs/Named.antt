@@ -1,4 +1,4 @@
--- Whether the variables of a tree are among so many.
+-- Whether the variables of a tree are among the first `count`.
 use Rattle.std.specs.Prelude.{ℕ, Bool, true, ◌&&◌, nat_lt}
 use Rattle.tv_program.specs.Trees.{Expression, number, variable, draw, minus, sum, product, Expressions, no_part, part, Condition, truth, compare, negated, all_of, some_of, Conditions, no_test, test}
 

@@ -28,7 +28,7 @@ pub record AreNames (words : List Word) : Type 0 where
   pub differ : EachIndex words (λ v. number_of (slice_index_or words v []) words ≡ Some v)
 
 abbrev mutual
-  -- how many draws there are after an expression, with so many before it
+  -- how many draws there are after an expression, with `draws` before it
   pub draws_after : Expression → ℕ → ℕ
   draws_after (number z) draws = draws
   draws_after (variable v) draws = draws
@@ -42,7 +42,7 @@ abbrev mutual
   draws_after_all (part e es) draws = draws_after_all es (draws_after e draws)
 
 abbrev mutual
-  -- the draws of the expression are numbered in the order of the text, with so many before it
+  -- the draws of the expression are numbered in the order of the text, with `draws` before it
   pub IsOrdered : Expression → ℕ → Type 0
   IsOrdered (number z) draws = Unit {0}
   IsOrdered (variable v) draws = Unit {0}

@@ -2,7 +2,7 @@
 use Rattle.std.specs.Prelude.{◌≡◌, ℕ, ◌+◌, ◌-◌, ◌^◌, ◌≤◌, List, ◌++◌, Option, min, length}
 use Rattle.std.specs.Io.KnownBytes.{Consumes, Appends}
 
--- what a stream tells of itself
+-- what a stream says about itself
 pub record Seen : Type 0 where
   -- the bytes that a source has not yet handed out, or that a sink holds, where that is known
   pub known : Option (List ℕ)

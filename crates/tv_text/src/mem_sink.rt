@@ -9,7 +9,7 @@ use crate::streams::{Failed, Sink};
 use std::alloc::{AllocError, Global};
 use std::marker::Model;
 
-/// Room in memory, of which a call fills at most a piece. The calls with the numbers in a list fail,
+/// Room in memory. A call fills at most a piece of it. The calls with the numbers in a list fail,
 /// and all calls once the room is full; the first call has number 1.
 #[derive(Drop)]
 pub struct MemSink {

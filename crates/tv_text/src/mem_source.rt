@@ -9,7 +9,7 @@ use crate::calls::{fails_at, next_call};
 use crate::streams::{Failed, Source};
 use std::marker::Model;
 
-/// Bytes in memory, of which a call reads at most a piece. The calls with the numbers in a list
+/// Bytes in memory. A call reads at most a piece of them. The calls with the numbers in a list
 /// fail; the first call has number 1.
 #[derive(Drop)]
 pub struct MemSource {

@@ -1,4 +1,4 @@
-//! The bytes that have passed, of which only contracts read.
+//! The bytes that have passed. Only contracts read them.
 ghost use Rattle.std.specs.Prelude.{◌≡◌, ◌++◌, ℕ, List, []};
 ghost use Rattle.std.specs.Borrow.{ftrue};
 

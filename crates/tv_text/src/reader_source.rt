@@ -3,7 +3,7 @@ use crate::streams::{Failed, Source};
 use std::io::Read;
 use std::marker::Model;
 
-/// A source over a reader. Each error of the reader is a fault. The bytes that are left are known where the reader tells them, as
+/// A source over a reader. Each error of the reader is a fault. The bytes that are left are known where the reader reports them, as
 /// standard input does not.
 #[derive(Drop)]
 pub struct ReaderSource<R: Read> {

@@ -4,7 +4,7 @@ use std::io::Write;
 use std::marker::Model;
 
 /// A sink over a writer. Each error of the writer is a fault, and so is a write that takes no byte. The bytes that were written are
-/// known where the writer tells them, as standard output does not.
+/// known where the writer reports them, as standard output does not.
 #[derive(Drop)]
 pub struct WriterSink<W: Write> {
     writer: W,

@@ -65,7 +65,11 @@ use Rattle.tv_pre.specs.declared.gap.Gap.TheVariants.{Inexact, Open}
 use Rattle.tv_pre.specs.declared.deciding.Unproved.{Unproved}
 use Rattle.tv_pre.specs.declared.deciding.Unproved.TheVariants.{Refused, Left, Wide}
 use Rattle.tv_pre.proofs.WithinSize.{refusal_within_size}
-use Rattle.tv_top.specs.Searching.{AnswersRegion, AnswersRefusal, AnswersLeft, AnswersUnproved}
+use Rattle.tv_top.specs.Searching.{IsUnknown, IsFormulaAnswer, AnswersRegion, AnswersRefusal, AnswersLeft, AnswersUnproved}
+use Rattle.tv_top.specs.declared.search.Search.{Search}
+use Rattle.tv_top.specs.Views.{wanted_view}
+use Rattle.tv_program.specs.Programs.{system_of}
+use Rattle.tv_cases.specs.Systems.{cases_of}
 use Rattle.tv_top.specs.Answers.{ended, unsolved, uncovered, unknown, too_wide}
 use Rattle.tv_top.specs.Tasks.{Wanted, Task}
 use Rattle.tv_top.specs.Finding.{of_solver, Offers, Finds, Settles, TellsClaim, SaysVerdict, IsTextOf, IsOpenEnd, IsEndFault, alone, round, found, IsSearchFault, IsWeakAt, AreTooManyAt, KeepsFrom, of_ends, of_safety, of_formula, budget_of, IsOther, IsUnprovedOf, AreTooMany, AreTooManyPieces}
@@ -81,7 +85,7 @@ none_fails es from f all first = met_there first.before first.after first.failin
 
 -- ---- what a certificate says
 module _ (wanted : Wanted) (p : System) (f : Property) (about : CaseSystem) (claim : Claim) (is : IsClaim claim f) (c : Certificate) (settling : IsSettling about claim c) (tells : TellsClaim p f about c) where
-  proved_so : (start : _) (text : List ℕ) → c.verdict ≡ verdicts.Proved start → IsTextOf wanted about claim c text → (answer : Answer) → SaysVerdict p (verdicts.Proved start) text answer → Settles wanted p f about answer
+  proved_so : (start : _) (text : List ℕ) → c.verdict ≡ verdicts.Proved start → IsTextOf wanted p about claim c text → (answer : Answer) → SaysVerdict p (verdicts.Proved start) text answer → Settles wanted p f about answer
   proved_so start text e is_text (Proved certificate) says = record {
     claim = claim;
     is_claim = is;
@@ -90,7 +94,7 @@ module _ (wanted : Wanted) (p : System) (f : Property) (about : CaseSystem) (cla
     proved = subst SaysProved (sym e) tt;
     met = settling.met;
     holds = subst (IsSettled p f) e tells.settled;
-    is_text = subst (IsTextOf wanted about claim c) (sym says) is_text;
+    is_text = subst (IsTextOf wanted p about claim c) (sym says) is_text;
   }
   proved_so start text e is_text Memory says = tt
   proved_so start text e is_text (Disproved at certificate) says = absurd says
@@ -105,7 +109,7 @@ module _ (wanted : Wanted) (p : System) (f : Property) (about : CaseSystem) (cla
   proved_so start text e is_text (Unknown cause) says = absurd says
   proved_so start text e is_text ReadFault says = absurd says
 
-  disproved_so : (piece : ℕ) (values : Vec ℤ Global) (text : List ℕ) → c.verdict ≡ verdicts.Disproved piece values → IsTextOf wanted about claim c text → (answer : Answer) → SaysVerdict p (verdicts.Disproved piece values) text answer → Settles wanted p f about answer
+  disproved_so : (piece : ℕ) (values : Vec ℤ Global) (text : List ℕ) → c.verdict ≡ verdicts.Disproved piece values → IsTextOf wanted p about claim c text → (answer : Answer) → SaysVerdict p (verdicts.Disproved piece values) text answer → Settles wanted p f about answer
   disproved_so piece values text e is_text (Disproved at certificate) says = record {
     claim = claim;
     is_claim = is;
@@ -119,7 +123,7 @@ module _ (wanted : Wanted) (p : System) (f : Property) (about : CaseSystem) (cla
     same = says.1;
     fails = subst (IsSettled p f) e tells.settled;
     endless = λ n. subst (FollowsFrom p about c.root) e (tells.followed n);
-    is_text = subst (IsTextOf wanted about claim c) (sym says.2) is_text;
+    is_text = subst (IsTextOf wanted p about claim c) (sym says.2) is_text;
   }
   disproved_so piece values text e is_text Memory says = tt
   disproved_so piece values text e is_text (Proved certificate) says = absurd says
@@ -135,7 +139,7 @@ module _ (wanted : Wanted) (p : System) (f : Property) (about : CaseSystem) (cla
   disproved_so piece values text e is_text ReadFault says = absurd says
 
   -- what the verdict says is so
-  pub said_so : (verdict : Verdict) (text : List ℕ) → c.verdict ≡ verdict → IsTextOf wanted about claim c text → (answer : Answer) → SaysVerdict p verdict text answer → Settles wanted p f about answer
+  pub said_so : (verdict : Verdict) (text : List ℕ) → c.verdict ≡ verdict → IsTextOf wanted p about claim c text → (answer : Answer) → SaysVerdict p verdict text answer → Settles wanted p f about answer
   said_so (verdicts.Proved start) text e is_text answer says = proved_so start text e is_text answer says
   said_so (verdicts.Disproved piece values) text e is_text answer says = disproved_so piece values text e is_text answer says
 
@@ -305,16 +309,61 @@ module _ (offers : Offers) (task : Task) (p : System) (f : Property) (about : Ca
   left_so (Open place) answer a h = subst (Finds offers task p f about) (sym a) (of_formula other h)
 
   -- what comes of a formula that has no certificate
-  pub unproved_so : (why : Unproved) (answer : Answer) → AnswersUnproved p about why answer → IsUnprovedOf about f spent why → Finds offers task p f about answer
+  pub unproved_so : (why : Unproved) (answer : Answer) → AnswersUnproved p about f why answer → IsUnprovedOf about f spent why → Finds offers task p f about answer
   unproved_so (Refused fault) answer a h = refused_so fault answer a h
   unproved_so (Left gap) answer a h = left_so gap answer a h
-  unproved_so (Wide place) answer a h = subst (Finds offers task p f about) (sym a) (of_formula other h)
+  unproved_so (Wide place) answer (inl none) h = subst (Finds offers task p f about) (sym none) tt
+  unproved_so (Wide place) answer (inr (column, is, wide)) h = subst (Finds offers task p f about) (sym is) (of_formula other ((place, h), wide))
 
 -- what comes of a formula
 pub answered_so : (offers : Offers) (task : Task) (p : System) (f : Property) (about : CaseSystem) → IsOther about f → AreCases about → HasParts f → (answer : Answer)
-    → Settles task.wanted p f about answer ⊎ ((why : Unproved) × AnswersUnproved p about why answer × IsUnprovedOf about f (budget_of task.limits) why) → Finds offers task p f about answer
+    → Settles task.wanted p f about answer ⊎ ((why : Unproved) × AnswersUnproved p about f why answer × IsUnprovedOf about f (budget_of task.limits) why) → Finds offers task p f about answer
 answered_so offers task p f about other cases parts answer (inl h) = settles_found offers task p f about answer h
 answered_so offers task p f about other cases parts answer (inr h) = unproved_so offers task p f about other cases parts h.0 answer h.1 h.2
+
+-- ---- an answer by regions that is not that nothing is known
+module _ (wanted : Wanted) (p : System) (f : Property) (about : CaseSystem) where
+  unsolved_known : (system : Name) (fault : SolveFault) → (IsUnknown (unsolved system fault) → ⊥) → Settles wanted p f about (unsolved system fault)
+  unsolved_known system (solving.Width basis row column) n = absurd (n tt)
+  unsolved_known system (solving.Scale basis) n = absurd (n tt)
+  unsolved_known system (solving.Pivots bases) n = absurd (n tt)
+  unsolved_known system (solving.Size rows columns) n = absurd (n tt)
+  unsolved_known system solving.Memory n = tt
+
+  uncovered_known : (fault : CoverFault) → (IsUnknown (uncovered fault) → ⊥) → Settles wanted p f about (uncovered fault)
+  uncovered_known (covers.Splits path) n = absurd (n tt)
+  uncovered_known (covers.Solve rows fault) n = unsolved_known (Rows rows) fault n
+  uncovered_known (covers.Wide column) n = absurd (n tt)
+  uncovered_known covers.Memory n = tt
+
+  pieces_known : (r : Result Cause AllocError) → (IsUnknown (unknown r) → ⊥) → Settles wanted p f about (unknown r)
+  pieces_known (Ok cause) n = absurd (n tt)
+  pieces_known (Err e) n = tt
+
+  region_known : (fault : RegionFault) (answer : Answer) → AnswersRegion p fault answer → (IsUnknown answer → ⊥) → Settles wanted p f about answer
+  region_known (regions.Disjuncts l count) answer a n = rw a.is (pieces_known a.cause (λ u. n (rw a.is u)))
+  region_known (regions.Wide column) answer a n = absurd (n (rw a tt))
+  region_known (regions.Solve rows fault) answer a n = rw a (unsolved_known (Rows rows) fault (λ u. n (rw a u)))
+  region_known regions.Memory answer a n = rw a tt
+
+  refused_known : (fault : PreFault) (answer : Answer) → AnswersRefusal p fault answer → (IsUnknown answer → ⊥) → Settles wanted p f about answer
+  refused_known (faults.Region fault) answer a n = region_known fault answer a n
+  refused_known (faults.Cover fault) answer a n = rw a (uncovered_known fault (λ u. n (rw a u)))
+  refused_known (faults.Rank system fault) answer a n = rw a (unsolved_known system fault (λ u. n (rw a u)))
+  refused_known faults.Memory answer a n = rw a tt
+
+  unproved_known : (why : Unproved) (answer : Answer) → AnswersUnproved p about f why answer → (IsUnknown answer → ⊥) → Settles wanted p f about answer
+  unproved_known (Refused fault) answer a n = refused_known fault answer a n
+  unproved_known (Left Inexact) answer a n = absurd (n (rw a.2 tt))
+  unproved_known (Left (Open place)) answer a n = absurd (n (rw a tt))
+  unproved_known (Wide place) answer (inl none) n = rw none tt
+  unproved_known (Wide place) answer (inr (column, is, wide)) n = absurd (n (rw is tt))
+
+-- an answer by regions settles, unless it is that nothing is known
+pub formula_known : (s : Search) (f : Property) (answer : Answer) → (IsUnknown answer → ⊥) → IsFormulaAnswer s f answer
+    → Settles (wanted_view s.task.now.wanted) (system_of s.program.now) f (cases_of s.about.now) answer
+formula_known s f answer n (inl h) = h
+formula_known s f answer n (inr h) = unproved_known (wanted_view s.task.now.wanted) (system_of s.program.now) f (cases_of s.about.now) h.0 answer h.1 n
 
 -- what comes of a further search
 pub further_so : (offers : Offers) (task : Task) (p : System) (f : Property) (about : CaseSystem) (old new : Answer) → Finds offers task p f about old

@@ -200,7 +200,7 @@ unsolved system (solving.Pivots bases) = Unknown (Unsolved system (kept.Pivots b
 unsolved system (solving.Size rows columns) = Unknown (Unsolved system (kept.Size rows columns))
 unsolved system solving.Memory = Memory
 
--- the answer where a question of whole points was not settled
+-- the answer where a question of integer points was not settled
 abbrev pub uncovered : CoverFault → Answer
 uncovered (covers.Splits path) = Unknown (Spent path)
 uncovered (covers.Solve rows fault) = unsolved (Rows rows) fault

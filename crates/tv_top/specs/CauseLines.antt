@@ -67,7 +67,7 @@ cause_line (TooManyPaths label count) = codes "Unknown disjuncts" ++ 10 ∷ []
 cause_line (TooManyPieces label count) = codes "Unknown disjuncts" ++ 10 ∷ []
 cause_line (Drawn case) = codes "Unknown template" ++ 10 ∷ []
 cause_line (Unsettled subformula) = codes "Unknown template" ++ 10 ∷ []
-cause_line (WideComparison subformula) = codes "Unknown width" ++ 10 ∷ []
+cause_line (WideComparison column) = codes "Unknown width" ++ 10 ∷ []
 
 -- the second line
 abbrev pub detail_line : Cause → List ℕ
@@ -80,4 +80,4 @@ detail_line (TooManyPaths label count) = count_line label.items count
 detail_line (TooManyPieces label count) = count_line label.items count
 detail_line (Drawn case) = codes "draw case " ++ (decimal case ++ 10 ∷ [])
 detail_line (Unsettled subformula) = codes "subformula " ++ (decimal subformula ++ 10 ∷ [])
-detail_line (WideComparison subformula) = codes "subformula " ++ (decimal subformula ++ 10 ∷ [])
+detail_line (WideComparison column) = codes "composed column " ++ (decimal column ++ 10 ∷ [])

@@ -53,7 +53,7 @@ pub record IsDisproved (p : System) (f : Property) (system : CaseSystem) (text :
   pub fails : FailsAt p f (record { location = p.start; values = values.items })
   pub endless : normal f ≡ term → Follows p system accepted.offer.certificate.root piece values.items
 
--- the text is that of no certificate of the property, and this line is told
+-- the text is that of no certificate of the property, and this line is reported
 pub record IsNoCertificate (f : Property) (system : CaseSystem) (text : List ℕ) (line : ℕ) : Type 0 where
   pub claim : Claim
   pub is_claim : IsClaim claim f

@@ -20,9 +20,9 @@ bare_command = on_top (λ s. record s { no_binary_name = true; disable_help_flag
 abbrev pub with_tasks : App → App
 with_tasks a = with_rule (with_rule (with_rule (with_rule a (flag (codes "termination"))) (option (codes "safety"))) (option (codes "ctl"))) (option (codes "generate"))
 
--- with what is done with certificates
+-- with what is done with certificates, and with runs
 abbrev pub with_certificates : App → App
-with_certificates a = with_rule (with_rule a (flag (codes "check"))) (flag (codes "certificate"))
+with_certificates a = with_rule (with_rule (with_rule a (flag (codes "check"))) (flag (codes "certificate"))) (option (codes "trace"))
 
 -- with the limits of a search
 abbrev pub with_limits : App → App

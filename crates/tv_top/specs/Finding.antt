@@ -44,6 +44,7 @@ use Rattle.tv_settling.specs.declared.fault.EndFault.TheVariants as ends
 use Rattle.tv_settling.specs.Closed.{HaveNoPoint}
 use Rattle.tv_settling.specs.Ends.{IsStuckAlone, IsFirstFault, RefusesFound}
 use Rattle.tv_settling.specs.Refusals.{RefusesSafety}
+use Rattle.tv_causes.specs.Widths.{IsWideComparison}
 use Rattle.tv_region.specs.StepRegions.{HasNoDraws}
 use Rattle.tv_region.specs.declared.fault.RegionFault.{RegionFault}
 use Rattle.tv_region.specs.declared.fault.RegionFault.TheVariants as regions
@@ -53,7 +54,8 @@ use Rattle.tv_pre.specs.declared.deciding.Unproved.{Unproved}
 use Rattle.tv_pre.specs.declared.deciding.Unproved.TheVariants.{Refused, Left, Wide}
 use Rattle.tv_pre.specs.Proving.{IsUnproved}
 use Rattle.tv_top.specs.Generated.{count_lines}
-use Rattle.tv_top.specs.Tasks.{Limits, Wanted, nothing_more, its_text, its_counts, Task}
+use Rattle.tv_top.specs.Traces.{IsRunText}
+use Rattle.tv_top.specs.Tasks.{Limits, Wanted, nothing_more, its_text, its_counts, its_trace, Task}
 use Rattle.tv_top.specs.declared.assignment.Assignment.{Assignment}
 use Rattle.tv_top.specs.declared.cause.Cause.{Cause}
 use Rattle.tv_top.specs.declared.system_fault.SystemFault.{SystemFault}
@@ -70,11 +72,12 @@ budget_of l = record { pivots = l.pivots; splits = l.splits; disjuncts = l.disju
 abbrev pub obligation_count : CaseSystem → Claim → Certificate → ℕ
 obligation_count about claim c = length (obligations (about_with about) (shown claim c.verdict) c.root c.verdict)
 
--- what is written after the verdict: nothing, a text of the certificate, or the numbers of loops, cases and obligations
-abbrev pub IsTextOf : Wanted → CaseSystem → Claim → Certificate → List ℕ → Type 0
-IsTextOf nothing_more about claim c text = text ≡ []
-IsTextOf its_text about claim c text = IsCertificateText about claim text c
-IsTextOf (its_counts loops) about claim c text = text ≡ count_lines loops (length about.cases) (obligation_count about claim c)
+-- what is written after the verdict: nothing, a text of the certificate, the numbers of loops, cases and obligations, or states of a run
+abbrev pub IsTextOf : Wanted → System → CaseSystem → Claim → Certificate → List ℕ → Type 0
+IsTextOf nothing_more p about claim c text = text ≡ []
+IsTextOf its_text p about claim c text = IsCertificateText about claim text c
+IsTextOf (its_counts loops) p about claim c text = text ≡ count_lines loops (length about.cases) (obligation_count about claim c)
+IsTextOf (its_trace count) p about claim c text = IsRunText p about claim c count text
 
 -- a certificate that the property holds, which fits, and all of whose obligations are met; and so it does, at every initial state
 pub record IsShown (wanted : Wanted) (p : System) (f : Property) (about : CaseSystem) (text : List ℕ) : Type 0 where
@@ -85,7 +88,7 @@ pub record IsShown (wanted : Wanted) (p : System) (f : Property) (about : CaseSy
   pub proved : SaysProved certificate.verdict
   pub met : AllMet (obligations (about_with about) (shown claim certificate.verdict) certificate.root certificate.verdict)
   pub holds : HoldsInitially p f
-  pub is_text : IsTextOf wanted about claim certificate text
+  pub is_text : IsTextOf wanted p about claim certificate text
 
 -- A certificate that the property fails at the state at the start with these values, which fits, and all of whose obligations are met; and
 -- so it does there. Where its normal form is `term`, the choices of the certificate lead from there along an endless run.
@@ -102,7 +105,7 @@ pub record IsRefuted (wanted : Wanted) (p : System) (f : Property) (about : Case
   pub same : at.values.items ≡ values.items
   pub fails : FailsAt p f (record { location = p.start; values = values.items })
   pub endless : normal f ≡ term → Follows p about certificate.root piece values.items
-  pub is_text : IsTextOf wanted about claim certificate text
+  pub is_text : IsTextOf wanted p about claim certificate text
 
 -- The property holds at every initial state, or fails at the one that the certificate's verdict names; where its normal form is `term`, the
 -- choices lead along an endless run.
@@ -128,18 +131,18 @@ Settles wanted p f about answer = ⊥
 abbrev pub Offers : Type 1
 Offers = CaseSystem → List (List Candidate) → Type 0
 
--- what these proposers offer, where rest is what each tells of some cases
+-- what these proposers offer, where rest is what each says of some cases
 abbrev pub offers_of : {A : Type 0} → (A → CaseSystem → Option (List Candidate)) → List A → Offers
 offers_of rest proposers about = Gave (λ p. rest p about) proposers
 
--- the fault of the solver of which this is the reason
+-- the fault of the solver with this reason
 abbrev pub of_solver : SystemFault → SolveFault
 of_solver (kept.Width basis row column) = solving.Width basis row column
 of_solver (kept.Scale basis) = solving.Scale basis
 of_solver (kept.Pivots bases) = solving.Pivots bases
 of_solver (kept.Size rows columns) = solving.Size rows columns
 
--- a question of whole points that was not settled, as it is answered
+-- a question of integer points that was not settled, as it is answered
 abbrev pub IsUncovered : (CoverFault → Type 0) → Cause → Type 0
 IsUncovered Is (Unsolved system e) = (rows : _) × (system ≡ systems.Rows rows) × Is (covers.Solve rows (of_solver e))
 IsUncovered Is (Spent path) = Is (covers.Splits path)
@@ -178,7 +181,7 @@ abbrev pub AreTooManyAt : System → ℕ → ℕ → Cause → Type 0
 AreTooManyAt p l count (TooManyPaths label n) = IsLabel p l label.items × (n ≡ count)
 AreTooManyAt p l count cause = ⊥
 
--- the rows are over the variables and inductive, and no whole point meets those at the location
+-- the rows are over the variables and inductive, and no integer point meets those at the location
 pub record KeepsFrom (about : CaseSystem) (l : ℕ) (list : List Candidate) : Type 0 where
   pub over : AreOver about.variables list
   pub inductive : IsInductive about list
@@ -250,11 +253,11 @@ IsUnsolved about f budget system e =
     ((rows : _) × (system ≡ systems.Rows rows) × IsEither about f budget (regions.Solve rows e) (covers.Solve rows e))
     ⊎ IsUnprovedOf about f budget (Refused (faults.Rank system e))
 
--- where no case has a draw, so many pieces are above the limit, and no more than each size of the property
+-- where no case has a draw, `count` is above the limit on pieces, and no more than each size of the property
 abbrev pub IsWithinSize : CaseSystem → Property → Budget → ℕ → Type 0
 IsWithinSize about f budget count = HasNoDraws about → (n : ℕ) → IsSize about f n → (budget.disjuncts < count) × (count ≤ n)
 
--- so many pieces of a region of the formula's are made at the location
+-- `count` pieces of a region of the formula's are made at the location
 abbrev pub AreTooMany : CaseSystem → Property → Budget → ℕ → ℕ → Type 0
 AreTooMany about f budget l count =
     IsUnprovedOf about f budget (Refused (faults.Region (regions.Disjuncts l count))) × IsWithinSize about f budget count
@@ -266,7 +269,7 @@ IsFormulaCause p about f budget (Composed column) = IsEither about f budget (reg
 IsFormulaCause p about f budget (TooManyPieces label count) = (l : ℕ) × IsLabelAt p l label.items × AreTooMany about f budget l count
 IsFormulaCause p about f budget (Drawn number) = IsDrawnAt about number × IsUnprovedOf about f budget (Left Inexact)
 IsFormulaCause p about f budget (Unsettled place) = IsUnprovedOf about f budget (Left (Open place))
-IsFormulaCause p about f budget (WideComparison place) = IsUnprovedOf about f budget (Wide place)
+IsFormulaCause p about f budget (WideComparison column) = ((place : ℕ) × IsUnprovedOf about f budget (Wide place)) × IsWideComparison about.variables f column
 IsFormulaCause p about f budget cause = ⊥
 
 -- why nothing is known of the property

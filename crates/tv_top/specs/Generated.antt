@@ -21,12 +21,12 @@ way_lines number = from_line number (codes "assume(a <= 0);" ++ 10 ∷ (codes "a
 abbrev pub loop_lines : ℕ → List ℕ
 loop_lines number = step_lines number ++ way_lines number
 
--- so many loops, one after the other
+-- n loops, one after the other
 abbrev pub loops_lines : ℕ → List ℕ
 loops_lines zero = []
 loops_lines (suc number) = loops_lines number ++ loop_lines number
 
--- the text of the program of so many loops, of which each counts down and then draws a number for the next
+-- the text of the program of `loops` loops; each counts down and then draws a number for the next
 abbrev pub generated_text : ℕ → List ℕ
 generated_text loops = codes "START: 0;" ++ 10 ∷ loops_lines loops
 

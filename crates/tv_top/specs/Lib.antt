@@ -4,6 +4,7 @@ pub mod Generated
 pub mod Forms
 pub mod Views
 pub mod CauseLines
+pub mod Traces
 pub mod Answers
 pub mod Properties
 pub mod CertificateChecks

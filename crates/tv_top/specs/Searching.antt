@@ -1,6 +1,6 @@
 -- What the answer of a search says.
 use Rattle.std.specs.declared.alloc.AllocError.{AllocError}
-use Rattle.std.specs.Prelude.{◌≡◌, ◌⊎◌, ℕ, List, Result, IfOk}
+use Rattle.std.specs.Prelude.{◌≡◌, ◌⊎◌, ℕ, List, Result, Ok, IfOk}
 use Rattle.tv_program.specs.Programs.{system_of}
 use Rattle.tv_formula.specs.Formulas.{property_of}
 use Rattle.tv_formula.specs.Normal.{negation}
@@ -10,8 +10,10 @@ use Rattle.tv_farkas.specs.declared.fault.CoverFault.{CoverFault}
 use Rattle.tv_candidates.specs.declared.candidate.Candidate.{Candidate}
 use Rattle.tv_settling.specs.Refusals.{RefusesSafety}
 use Rattle.tv_cases.specs.Answers.{IsOfProgram, HaveSameSteps}
+use Rattle.tv_cases.specs.ProgramCases.{linear_cases}
 use Rattle.tv_cases.specs.Systems.{cases_of}
 use Rattle.tv_cert.specs.Claims.{claim_variables}
+use Rattle.tv_causes.specs.Widths.{IsWideComparison}
 use Rattle.tv_top.specs.declared.answer.Answer.{Answer}
 use Rattle.tv_top.specs.declared.search.Search.{Search}
 use Rattle.tv_points.specs.declared.fault.PointFault.{PointFault}
@@ -39,6 +41,7 @@ use Rattle.tv_top.specs.Views.{wanted_view, task_view}
 pub record IsOfOne (s : Search) : Type 0 where
   pub same_program : IsOfProgram (system_of s.program.now) (cases_of s.about.now)
   pub same_steps : HaveSameSteps (system_of s.program.now) (cases_of s.about.now)
+  pub are_cases : linear_cases (system_of s.program.now) ≡ Ok (cases_of s.about.now).cases
   pub variables : claim_variables s.claim.now ≡ (cases_of s.about.now).variables
   pub denies : property_of s.claim.now.denied ≡ negation (property_of s.claim.now.proved)
 
@@ -56,7 +59,7 @@ IsReachedOrNot s f found answer =
 
 -- ---- formulas over paths
 
--- the answer tells of so many pieces at a location, unless memory runs out
+-- the answer reports `count` pieces at a location, unless memory runs out
 pub record AnswersPieces (p : System) (l count : ℕ) (answer : Answer) : Type 0 where
   pub cause : Result Cause AllocError
   pub is : answer ≡ unknown cause
@@ -85,18 +88,29 @@ abbrev pub AnswersLeft : CaseSystem → Gap → Answer → Type 0
 AnswersLeft about gaps.Inexact answer = AnswersInexact about answer
 AnswersLeft about (gaps.Open place) answer = answer ≡ answers.Unknown (causes.Unsettled place)
 
+-- where a comparison has no rows: the answer names the first column that is too wide, unless memory runs out
+abbrev pub AnswersWide : CaseSystem → Property → Answer → Type 0
+AnswersWide about f answer =
+    (answer ≡ answers.Memory)
+    ⊎ ((column : ℕ) × (answer ≡ answers.Unknown (causes.WideComparison column)) × IsWideComparison about.variables f column)
+
 -- the answer where there is no certificate of a formula
-abbrev pub AnswersUnproved : System → CaseSystem → Unproved → Answer → Type 0
-AnswersUnproved p about (unproved.Refused fault) answer = AnswersRefusal p fault answer
-AnswersUnproved p about (unproved.Left gap) answer = AnswersLeft about gap answer
-AnswersUnproved p about (unproved.Wide place) answer = answer ≡ answers.Unknown (causes.WideComparison place)
+abbrev pub AnswersUnproved : System → CaseSystem → Property → Unproved → Answer → Type 0
+AnswersUnproved p about f (unproved.Refused fault) answer = AnswersRefusal p fault answer
+AnswersUnproved p about f (unproved.Left gap) answer = AnswersLeft about gap answer
+AnswersUnproved p about f (unproved.Wide place) answer = AnswersWide about f answer
 
 -- the answer of a certificate of the formula, or why there is none
 abbrev pub IsFormulaAnswer : Search → Property → Answer → Type 0
 IsFormulaAnswer s f answer =
     Settles (wanted_view s.task.now.wanted) (system_of s.program.now) f (cases_of s.about.now) answer
-    ⊎ ((why : Unproved) × AnswersUnproved (system_of s.program.now) (cases_of s.about.now) why answer
+    ⊎ ((why : Unproved) × AnswersUnproved (system_of s.program.now) (cases_of s.about.now) f why answer
     × IsUnprovedOf (cases_of s.about.now) f (budget_of (task_view s.task.now).limits) why)
+
+-- it is not known whether the property holds
+abbrev pub IsUnknown : Answer → Type 0
+IsUnknown (answers.Unknown cause) = Unit {0}
+IsUnknown answer = ⊥
 
 -- the answer is the one that was there, or that of a certificate
 abbrev pub IsSameOrSettles : Search → Property → Answer → Answer → Type 0

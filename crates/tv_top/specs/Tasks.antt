@@ -33,8 +33,10 @@ pub data Wanted : Type 0 where
   nothing_more : Wanted
   -- the text of the certificate that is found
   its_text : Wanted
-  -- how many loops, cases and obligations there are, of a program of so many loops that is made
+  -- how many loops, cases and obligations there are, of a program with n loops that is made
   its_counts : ℕ → Wanted
+  -- the first states of a run that never ends, at most n
+  its_trace : ℕ → Wanted
 
 pub record Task : Type 0 where
   pub query : Query
@@ -48,6 +50,7 @@ abbrev pub made_loops : Wanted → Option ℕ
 made_loops nothing_more = None
 made_loops its_text = None
 made_loops (its_counts loops) = Some loops
+made_loops (its_trace states) = None
 
 -- ---- numbers
 
@@ -56,7 +59,7 @@ abbrev pub begins_above_zero : Text → Bool
 begins_above_zero [] = false
 begins_above_zero (b ∷ bs) = not (b == 48)
 
--- decimal digits, of which the first is not 0
+-- decimal digits, and the first is not 0
 abbrev pub is_decimal : Text → Bool
 is_decimal word = begins_above_zero word && list_all is_ascii_digit word
 
@@ -101,14 +104,17 @@ query_in rows =
     query_of_made (first_of (codes "generate") rows) (is_given (codes "termination") rows) (first_of (codes "safety") rows)
     (first_of (codes "ctl") rows)
 
--- what is written after the verdict: of a program that is made, numbers alone
-abbrev pub wanted_of : Bool → Option Text → Option Wanted
-wanted_of writes None = Some (if writes then its_text else nothing_more)
-wanted_of true (Some loops) = None
-wanted_of false (Some loops) = option_map its_counts (number_within 1000 loops)
+-- what is written after the verdict: a certificate, states, or of a program that is made, numbers alone
+abbrev pub wanted_of : Bool → Option Text → Option Text → Option Wanted
+wanted_of writes None None = Some (if writes then its_text else nothing_more)
+wanted_of true (Some states) None = None
+wanted_of false (Some states) None = option_map its_trace (number_within 1000 states)
+wanted_of true None (Some loops) = None
+wanted_of false None (Some loops) = option_map its_counts (number_within 1000 loops)
+wanted_of writes (Some states) (Some loops) = None
 
 abbrev pub wanted_in : List Row → Option Wanted
-wanted_in rows = wanted_of (is_given (codes "certificate") rows) (first_of (codes "generate") rows)
+wanted_in rows = wanted_of (is_given (codes "certificate") rows) (first_of (codes "trace") rows) (first_of (codes "generate") rows)
 
 abbrev pub limits_in : List Row → Option Limits
 limits_in rows =
@@ -119,12 +125,26 @@ limits_in rows =
     })) (limit_of 4096 256 (first_of (codes "disjuncts") rows))) (limit_of 128 64 (first_of (codes "splits") rows)))
     (limit_of 1000000 100000 (first_of (codes "pivots") rows))
 
--- a certificate is not both read and written, and none is read for a program that is made
+-- states are written only where it is asked whether every run ends
+abbrev pub is_answerable : Wanted → Query → Bool
+is_answerable (its_trace states) termination = true
+is_answerable (its_trace states) (safety label) = false
+is_answerable (its_trace states) (ctl text) = false
+is_answerable nothing_more query = true
+is_answerable its_text query = true
+is_answerable (its_counts loops) query = true
+
+-- where a certificate is to be checked, nothing is written after the verdict
+abbrev pub task_checked : Wanted → Query → Limits → Option Task
+task_checked nothing_more query limits = Some (record { query = query; checks = true; wanted = nothing_more; limits = limits })
+task_checked its_text query limits = None
+task_checked (its_counts loops) query limits = None
+task_checked (its_trace states) query limits = None
+
 abbrev pub task_with : Bool → Wanted → Query → Limits → Option Task
-task_with true its_text query limits = None
-task_with true (its_counts loops) query limits = None
-task_with true nothing_more query limits = Some (record { query = query; checks = true; wanted = nothing_more; limits = limits })
-task_with false wanted query limits = Some (record { query = query; checks = false; wanted = wanted; limits = limits })
+task_with true wanted query limits = task_checked wanted query limits
+task_with false wanted query limits =
+    if is_answerable wanted query then Some (record { query = query; checks = false; wanted = wanted; limits = limits }) else None
 
 abbrev pub task_in : List Row → Option Task
 task_in rows =

@@ -10,7 +10,7 @@ pub enum Cause {
         system: Name,
         fault: SystemFault,
     },
-    /// Whether rows have a whole point was not settled by so many splits.
+    /// Whether rows have an integer point was not settled by the splits on this path.
     Spent {
         path: Vec<Branch>,
     },
@@ -28,12 +28,12 @@ pub enum Cause {
         label: Vec<u8>,
         point: Vec<i128>,
     },
-    /// So many paths, more than are looked at, may come to the location with the label.
+    /// `count` paths, more than are looked at, may come to the location with the label.
     TooManyPaths {
         label: Vec<u8>,
         count: u64,
     },
-    /// So many pieces of a region, more than are kept, are made at the location with the label.
+    /// `count` pieces of a region, more than are kept, are made at the location with the label.
     TooManyPieces {
         label: Vec<u8>,
         count: u64,
@@ -42,12 +42,12 @@ pub enum Cause {
     Drawn {
         case: u32,
     },
-    /// No round up to the last one that is made settles the fixed point that is this subformula.
+    /// No round up to the last one that is made settles the fixpoint that is this subformula.
     Unsettled {
         subformula: u32,
     },
-    /// The comparison that is this subformula has no rows: a number of a part of it, or of a row, is too wide.
+    /// A comparison has no rows: the form of a part of it, or a row, is too wide, first at this column.
     WideComparison {
-        subformula: u32,
+        column: u32,
     },
 }

@@ -104,7 +104,7 @@ fn system_line(alloc: Global, system: &Name, fault: &SystemFault) -> Result<Stri
 }
 
 /// The text is added.
-fn append(out: &mut Vec<u8>, text: &str) -> Result<(), AllocError>
+pub(crate) fn append(out: &mut Vec<u8>, text: &str) -> Result<(), AllocError>
     ensures { OnOk result (out.new.items ≡ out.old.items ++ text.now) }
 {
     out.extend_from_slice(text.as_bytes())
@@ -133,7 +133,7 @@ fn append_numbers(out: &mut Vec<u8>, numbers: &[u32]) -> Result<(), AllocError>
 }
 
 /// The values are added, each with a space before it, up to the end of the line.
-fn append_values(out: &mut Vec<u8>, values: &[i128]) -> Result<(), AllocError>
+pub(crate) fn append_values(out: &mut Vec<u8>, values: &[i128]) -> Result<(), AllocError>
     ensures { OnOk result (out.new.items ≡ out.old.items ++ spaced (map signed_decimal values.now)) }
 {
     match values {
@@ -216,8 +216,8 @@ impl Cause {
             Cause::Unsettled { subformula } => {
                 append_number(out, "subformula ", *subformula as usize)
             }
-            Cause::WideComparison { subformula } => {
-                append_number(out, "subformula ", *subformula as usize)
+            Cause::WideComparison { column } => {
+                append_number(out, "composed column ", *column as usize)
             }
         }
     }

@@ -49,12 +49,13 @@ fn with_tasks<'a>(alloc: Global, command: Command<'a>) -> Result<Command<'a>, Al
     with_option(alloc, command, "generate")
 }
 
-/// What is done with certificates.
+/// What is done with certificates, and with runs.
 fn with_certificates<'a>(alloc: Global, command: Command<'a>) -> Result<Command<'a>, AllocError>
     ensures { IfOk result (λ c. app_of c ≡ with_certificates (app_of command.entry)) }
 {
     let command = with_flag(alloc, command, "check")?;
-    with_flag(alloc, command, "certificate")
+    let command = with_flag(alloc, command, "certificate")?;
+    with_option(alloc, command, "trace")
 }
 
 /// The limits of a search.

@@ -1,34 +1,34 @@
 // What a search finds.
 
-ghost use Rattle.std.specs.Prelude.{◌≡◌, ◌↔◌, ◌≤◌, IfOk, IfSome, IsTrue, length};
+ghost use Rattle.std.specs.Prelude.{◌≡◌, ◌↔◌, ◌≤◌, Ok, IfOk, IsTrue, length};
 ghost use Rattle.tv_program.specs.Programs.{system_of};
 ghost use Rattle.tv_formula.specs.Formulas.{property_of, variables_of};
 ghost use Rattle.tv_formula.specs.Parts.{HasParts};
 ghost use Rattle.tv_formula.specs.Properties.{Property, term};
 ghost use Rattle.tv_cases.specs.Answers.{IsOfProgram, HaveSameSteps};
+ghost use Rattle.tv_cases.specs.ProgramCases.{linear_cases};
 ghost use Rattle.tv_cases.specs.Systems.{cases_of};
 ghost use Rattle.tv_cert.specs.Claims.{IsClaim, claim_variables, about_with, shown};
 ghost use Rattle.tv_shape.specs.Certificates.{IsOf, IsSettling};
-ghost use Rattle.tv_points.specs.Nodes.{endless};
-ghost use Rattle.tv_recur.specs.Recurring.{IsRecurrence};
-ghost use Rattle.tv_settling.specs.Ends.{IsStuckAlone};
-ghost use Rattle.tv_top.specs.Answers.{ended, uncovered};
-ghost use Rattle.tv_top.specs.Finding.{budget_of, offers_of, IsOpenEnd, IsTextOf, TellsClaim, SaysVerdict, Settles, Finds};
+ghost use Rattle.tv_top.specs.Answers.{uncovered};
+ghost use Rattle.tv_top.specs.Finding.{budget_of, offers_of, IsTextOf, TellsClaim, SaysVerdict, Settles, Finds};
 ghost use Rattle.tv_top.specs.Searching.{IsOfOne, Answers};
 ghost use Rattle.tv_top.specs.Views.{limits_of, wanted_view, task_view};
 
 use crate::answer::Answer;
 use crate::assignment::Assignment;
 use crate::cause::Cause;
+use crate::ending::ends;
 use crate::excluded::excluded;
-use crate::further::{looked_at, or_further, or_looked};
+use crate::further::{looked_at, or_further};
 use crate::limits::Limits;
 use crate::making::count_lines;
-use crate::paths::over_paths;
+use crate::paths::{or_over_paths, over_paths};
 use crate::safety::safe;
 use crate::search::Search;
 use crate::system_fault::unsolved;
 use crate::task::Task;
+use crate::tracing::run_text;
 use crate::wanted::Wanted;
 use std::alloc::{AllocError, Global};
 use tv_cases::Cases;
@@ -40,12 +40,10 @@ use tv_program::Program;
 use tv_propose::Proposer;
 use tv_pruning::smaller;
 use tv_rank::Name;
-use tv_recur::{Recurrence, recur, recurrence_certificate};
-use tv_settling::{EndFault, first_end, found_end};
 use tv_shape::Certificate;
 use tv_sound::check_claim;
 
-/// The answer where a question of whole points was not settled.
+/// The answer where a question of integer points was not settled.
 pub(crate) fn uncovered(fault: CoverFault) -> Answer
     ensures { result ≡ uncovered fault }
 {
@@ -54,18 +52,6 @@ pub(crate) fn uncovered(fault: CoverFault) -> Answer
         CoverFault::Solve { rows, fault } => unsolved(Name::Rows(rows), fault),
         CoverFault::Wide { column } => Answer::Unknown(Cause::Composed { column }),
         CoverFault::Memory => Answer::Memory,
-    }
-}
-
-/// The answer where it is not known whether every run ends.
-fn ended(fault: EndFault) -> Answer
-    ensures { result ≡ ended fault }
-{
-    match fault {
-        EndFault::Solve { system, fault } => unsolved(system, fault),
-        EndFault::Cover { fault } => uncovered(fault),
-        EndFault::Rank { set, barriers } => Answer::Unknown(Cause::Unranked { set, barriers }),
-        EndFault::Memory => Answer::Memory,
     }
 }
 
@@ -80,24 +66,20 @@ pub(crate) fn is_termination(formula: &Formula) -> bool
 }
 
 /// What is written after the verdict of the certificate.
-fn text_of(
-    alloc: Global,
-    wanted: Wanted,
-    about: &Cases,
-    claim: &Claim,
-    certificate: &Certificate,
-) -> Result<Vec<u8>, AllocError>
-    requires settling { IsSettling (cases_of about.now) claim.now certificate.now }
-    requires variables { claim_variables claim.now ≡ (cases_of about.now).variables }
-    ensures { IfOk result (λ text. IsTextOf (wanted_view wanted) (cases_of about.now) claim.now certificate.now text.items) }
+fn text_of(alloc: Global, search: &Search, certificate: &Certificate) -> Result<Vec<u8>, AllocError>
+    requires one { IsOfOne search.now }
+    requires settling { IsSettling (cases_of search.now.about.now) search.now.claim.now certificate.now }
+    ensures { let s = search.now in let wanted = wanted_view s.task.now.wanted in
+        IfOk result (λ text. IsTextOf wanted (system_of s.program.now) (cases_of s.about.now) s.claim.now certificate.now text.items) }
 {
-    match wanted {
+    match search.task.wanted {
         Wanted::Nothing => Ok(Vec::new(alloc)),
         Wanted::Certificate => write_certificate(alloc, certificate),
         Wanted::Counts(loops) => {
-            let cases = about.list().len() as u64;
+            let cases = search.about.list().len() as u64;
             count_lines(alloc, loops.count, cases, certificate.obligations())
         }
+        Wanted::Trace { count } => run_text(alloc, search, certificate, count),
     }
 }
 
@@ -138,13 +120,7 @@ fn told_by(alloc: Global, search: &Search, certificate: &Certificate) -> Answer
         Settles (wanted_view search.now.task.now.wanted) (system_of search.now.program.now) f (cases_of search.now.about.now) result }
 {
     ensure_met(search, certificate);
-    match text_of(
-        alloc,
-        search.task.wanted,
-        search.about,
-        search.claim,
-        certificate,
-    ) {
+    match text_of(alloc, search, certificate) {
         Ok(text) => verdict_answer(alloc, search.program, certificate.verdict(), text),
         Err(_) => Answer::Memory,
     }
@@ -191,100 +167,6 @@ pub(crate) fn budget_of(limits: &Limits) -> Budget
     }
 }
 
-/// The answer to whether every run ends, under rows that are found.
-fn ends_under_rows(
-    alloc: Global,
-    search: &Search,
-    proposers: &mut Vec<Box<dyn Proposer>>,
-    budget: &Budget,
-) -> Answer
-    requires one { IsOfOne search.now }
-    requires ends { property_of search.now.claim.now.proved ≡ term }
-    requires unsettled { IsOpenEnd (cases_of search.now.about.now) }
-    requires budget { budget.now ≡ budget_of (task_view search.now.task.now).limits }
-    requires splits { budget.now.splits ≤ 128 }
-    ensures { (f : Property) → IsClaim search.now.claim.now f →
-        Answers (offers_of (λ p. rest p) proposers.old.items) search.now f result }
-{
-    match found_end(alloc, search.about, search.claim, proposers, budget) {
-        Ok(certificate) => told(alloc, search, certificate),
-        Err(fault) => ended(fault),
-    }
-}
-
-/// The answer of a run that never ends.
-fn endless_run(alloc: Global, search: &Search, recurrence: Recurrence) -> Answer
-    requires one { IsOfOne search.now }
-    requires denied { property_of search.now.claim.now.denied ≡ endless }
-    requires recurrence { IsRecurrence (cases_of search.now.about.now) recurrence }
-    ensures { (f : Property) → IsClaim search.now.claim.now f →
-        Settles (wanted_view search.now.task.now.wanted) (system_of search.now.program.now) f (cases_of search.now.about.now) result }
-{
-    match recurrence_certificate(alloc, search.about, search.claim, recurrence) {
-        Ok(certificate) => told(alloc, search, certificate),
-        Err(_) => Answer::Memory,
-    }
-}
-
-/// The answer to whether every run ends, where ranks alone do not show it.
-fn ends_later(
-    alloc: Global,
-    search: &Search,
-    proposers: &mut Vec<Box<dyn Proposer>>,
-    budget: &Budget,
-) -> Answer
-    requires one { IsOfOne search.now }
-    requires ends { property_of search.now.claim.now.proved ≡ term }
-    requires stuck { IsStuckAlone (cases_of search.now.about.now) }
-    requires budget { budget.now ≡ budget_of (task_view search.now.task.now).limits }
-    requires splits { budget.now.splits ≤ 128 }
-    ensures { (f : Property) → IsClaim search.now.claim.now f →
-        Answers (offers_of (λ p. rest p) proposers.old.items) search.now f result }
-{
-    match recur(alloc, search.about, budget) {
-        Ok(Some(recurrence)) => endless_run(alloc, search, recurrence),
-        Ok(None) => ends_under_rows(alloc, search, proposers, budget),
-        Err(fault) => uncovered(fault),
-    }
-}
-
-/// The answer to whether every run ends, where ranks alone do not show it: of a program with many cases, single states may tell.
-fn ends_unranked(
-    alloc: Global,
-    search: &Search,
-    proposers: &mut Vec<Box<dyn Proposer>>,
-    budget: &Budget,
-) -> Answer
-    requires one { IsOfOne search.now }
-    requires ends { property_of search.now.claim.now.proved ≡ term }
-    requires stuck { IsStuckAlone (cases_of search.now.about.now) }
-    requires budget { budget.now ≡ budget_of (task_view search.now.task.now).limits }
-    requires splits { budget.now.splits ≤ 128 }
-    ensures { (f : Property) → IsClaim search.now.claim.now f →
-        Answers (offers_of (λ p. rest p) proposers.old.items) search.now f result }
-{
-    match looked_at(alloc, search) {
-        Ok(Some(certificate)) => told(alloc, search, certificate),
-        Ok(None) => ends_later(alloc, search, proposers, budget),
-        Err(_) => Answer::Memory,
-    }
-}
-
-/// The answer to whether every run ends, which is claimed. Ranks come first, since they are found soon where there are any.
-fn ends(alloc: Global, search: &Search, proposers: &mut Vec<Box<dyn Proposer>>) -> Answer
-    requires one { IsOfOne search.now }
-    requires ends { property_of search.now.claim.now.proved ≡ term }
-    ensures { (f : Property) → IsClaim search.now.claim.now f →
-        Answers (offers_of (λ p. rest p) proposers.old.items) search.now f result }
-{
-    let budget = budget_of(&search.task.limits);
-    match first_end(alloc, search.about, search.claim, &budget) {
-        Ok(Some(certificate)) => told(alloc, search, certificate),
-        Ok(None) => ends_unranked(alloc, search, proposers, &budget),
-        Err(fault) => or_looked(alloc, search, ended(fault)),
-    }
-}
-
 /// The answer to what is claimed, which is not that every run ends.
 fn settle_other(alloc: Global, search: &Search, proposers: &mut Vec<Box<dyn Proposer>>) -> Answer
     requires one { IsOfOne search.now }
@@ -328,7 +210,8 @@ fn settle(alloc: Global, search: &Search, proposers: &mut Vec<Box<dyn Proposer>>
         Answers (offers_of (λ p. rest p) proposers.old.items) search.now f result }
 {
     let answer = settle_once(alloc, search, proposers);
-    or_further(alloc, search, proposers, answer)
+    let further = or_further(alloc, search, proposers, answer);
+    or_over_paths(alloc, search, further)
 }
 
 /// The answer of a search to whether the program, with these cases, has the property.
@@ -344,6 +227,7 @@ pub fn find(
     requires parts { HasParts (property_of property.now) }
     requires same_program { IsOfProgram (system_of program.now) (cases_of about.now) }
     requires same_steps { HaveSameSteps (system_of program.now) (cases_of about.now) }
+    requires are_cases { linear_cases (system_of program.now) ≡ Ok (cases_of about.now).cases }
     ensures { Finds (offers_of (λ p. rest p) proposers.old.items)
         (task_view task.now) (system_of program.now) (property_of property.now) (cases_of about.now) result }
 {

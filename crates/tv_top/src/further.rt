@@ -10,8 +10,9 @@ ghost use Rattle.tv_top.specs.Searching.{IsOfOne, IsSameOrSettles};
 use crate::answer::Answer;
 use crate::cause::Cause;
 use crate::finding::{budget_of, is_termination, told};
-use crate::limits::USUAL_PIECES;
+use crate::limits::{USUAL_PIECES, USUAL_PIVOTS, USUAL_SPLITS};
 use crate::search::Search;
+use crate::system_fault::SystemFault;
 use crate::wanted::Wanted;
 use std::alloc::{AllocError, Global};
 use tv_candidates::Candidate;
@@ -21,6 +22,7 @@ use tv_invariant::strengthen;
 use tv_propose::Proposer;
 use tv_rank::Name;
 use tv_shape::Certificate;
+use tv_split_ranks::{Budget as PlaceBudget, split_ranks};
 use tv_walks::Budget;
 
 /// A program of more cases than that is looked at by single states before rows and regions are sought, which may take long there.
@@ -74,17 +76,48 @@ fn is_of_ranks(system: &Name) -> bool {
     }
 }
 
-/// Whether a further search is begun after the answer: where no ranks, no rows or no rounds were found, and not where a limit of the search
-/// was met. Ranks of a formula that is not termination are but one way to show it, so there a limit that they met ends nothing; and regions
-/// are but one way, so neither does their usual limit, or a greater one.
+/// Whether the columns of the basis follow one another, as those of the basis that the solver begins with do: where an entry of that one is
+/// too wide, it is a number of the program itself.
+fn is_first_basis(basis: &[u32]) -> bool {
+    for place in 1..basis.len() {
+        let before = basis[place - 1];
+        if basis[place] <= before || basis[place] - before > 1 {
+            return false;
+        }
+    }
+    true
+}
+
+/// Whether a limit that the words give, or a number of the program itself, is why a system was not settled.
+fn is_given(search: &Search, fault: &SystemFault) -> bool {
+    match fault {
+        SystemFault::Width {
+            basis,
+            row: _,
+            column: _,
+        } => is_first_basis(basis),
+        SystemFault::Scale { basis: _ } => false,
+        SystemFault::Pivots { bases: _ } => search.task.limits.pivots < USUAL_PIVOTS,
+        SystemFault::Size {
+            rows: _,
+            columns: _,
+        } => false,
+    }
+}
+
+/// Whether a further search is begun after the answer: where no ranks, no rows or no rounds were found, or what would have found them met
+/// a limit, but not one that the words give, and not a number of the program itself. Ranks of a formula that is not termination are but one
+/// way to show it, so there no limit that they met ends the search.
 fn leaves_open(search: &Search, answer: &Answer) -> bool {
     match answer {
-        Answer::Unknown(Cause::Unsolved { system, fault: _ }) => {
-            if is_termination(search.claim.proved()) {
-                return false;
+        Answer::Unknown(Cause::Unsolved { system, fault }) => {
+            if is_of_ranks(system) && !is_termination(search.claim.proved()) {
+                return true;
             }
-            is_of_ranks(system)
+            !is_given(search, fault)
         }
+        Answer::Unknown(Cause::Spent { .. }) => search.task.limits.splits >= USUAL_SPLITS,
+        Answer::Unknown(Cause::Composed { .. }) => true,
         Answer::Unknown(Cause::TooManyPieces { .. }) => {
             search.task.limits.disjuncts >= USUAL_PIECES
         }
@@ -112,7 +145,7 @@ fn known_rows(
     }
 }
 
-/// A certificate that a further search finds, if there is one.
+/// A certificate that a further search finds, if there is one: of walks and areas, and then of ranks of places that are split by rows.
 fn found(
     alloc: Global,
     search: &Search,
@@ -123,7 +156,13 @@ fn found(
 {
     let known = known_rows(alloc, search, proposers)?;
     match further(alloc, search.about, search.claim, &known, &Budget::usual())? {
-        None => Ok(None),
+        None => split_ranks(
+            alloc,
+            search.about,
+            search.claim,
+            &known,
+            &PlaceBudget::usual(),
+        ),
         Some(found) => Ok(Some(found.certificate)),
     }
 }

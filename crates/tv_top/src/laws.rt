@@ -1,7 +1,7 @@
 // What some forms of words ask for, carried by functions that do nothing.
 
 ghost use Rattle.std.specs.Prelude.{◌≡◌, ◌∷◌, [], codes, false, true, Some, None};
-ghost use Rattle.tv_top.specs.Tasks.{safety, termination, ctl, nothing_more, its_text, its_counts, task_of};
+ghost use Rattle.tv_top.specs.Tasks.{safety, termination, ctl, nothing_more, its_text, its_counts, its_trace, task_of};
 ghost use Rattle.tv_top.specs.Forms.{asks, usual, limits};
 
 /// Forms of words, and what they ask for.
@@ -15,6 +15,7 @@ pub fn listed_words()
     ensures numbers { task_of (codes "--splits" ∷ codes "128" ∷ codes "--termination" ∷ codes "--pivots=1" ∷ []) ≡
         Some (asks termination false nothing_more (limits 1 128 256)) }
     ensures generated { task_of (codes "--generate" ∷ codes "1000" ∷ []) ≡ Some (asks termination false (its_counts 1000) usual) }
+    ensures traced { task_of (codes "--termination" ∷ codes "--trace" ∷ codes "1000" ∷ []) ≡ Some (asks termination false (its_trace 1000) usual) }
 {}
 
 /// Forms of words that ask for nothing.
@@ -33,5 +34,12 @@ pub fn refused_words()
     ensures made_and_named { task_of (codes "--generate" ∷ codes "3" ∷ codes "--termination" ∷ []) ≡ None }
     ensures made_and_written { task_of (codes "--generate" ∷ codes "3" ∷ codes "--certificate" ∷ []) ≡ None }
     ensures made_and_checked { task_of (codes "--check" ∷ codes "--generate" ∷ codes "3" ∷ []) ≡ None }
+    ensures no_states { task_of (codes "--termination" ∷ codes "--trace" ∷ codes "0" ∷ []) ≡ None }
+    ensures many_states { task_of (codes "--termination" ∷ codes "--trace" ∷ codes "1001" ∷ []) ≡ None }
+    ensures traced_alone { task_of (codes "--trace" ∷ codes "3" ∷ []) ≡ None }
+    ensures traced_and_checked { task_of (codes "--termination" ∷ codes "--trace" ∷ codes "3" ∷ codes "--check" ∷ []) ≡ None }
+    ensures traced_and_written { task_of (codes "--termination" ∷ codes "--trace" ∷ codes "3" ∷ codes "--certificate" ∷ []) ≡ None }
+    ensures traced_formula { task_of (codes "--ctl" ∷ codes "term" ∷ codes "--trace" ∷ codes "3" ∷ []) ≡ None }
+    ensures traced_and_made { task_of (codes "--generate" ∷ codes "3" ∷ codes "--trace" ∷ codes "3" ∷ []) ≡ None }
     ensures help { task_of (codes "--help" ∷ []) ≡ None }
 {}

@@ -8,6 +8,7 @@ mod cause;
 mod cause_lines;
 mod certificate_check;
 mod command;
+mod ending;
 mod excluded;
 mod finding;
 mod further;
@@ -23,6 +24,7 @@ mod search;
 mod status;
 mod system_fault;
 mod task;
+mod tracing;
 mod wanted;
 
 pub use laws::{listed_words, refused_words};

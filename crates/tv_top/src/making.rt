@@ -39,7 +39,7 @@ fn push_loop(alloc: Global, number: u32, text: &mut Vec<u8>) -> Result<(), Alloc
     Ok(())
 }
 
-/// The text of a program of so many loops, of which each counts down and then draws a number for the next.
+/// The text of a program of `loops` loops. Each of them counts down and then draws a number for the next.
 pub fn generated(alloc: Global, loops: u32) -> Result<Vec<u8>, AllocError>
     requires { loops ≤ 1000 }
     ensures exact { IfOk result (λ text. text.items ≡ generated_text loops) }

@@ -24,7 +24,7 @@ fn are_digits(word: &[u8]) -> bool
     word.iter().all(|byte| byte.is_ascii_digit())
 }
 
-/// Whether the bytes are decimal digits, of which the first is not 0.
+/// Whether the bytes are decimal digits, and the first is not 0.
 fn is_decimal(word: &[u8]) -> bool
     ensures { result ≡ is_decimal word.now }
 {

@@ -1,16 +1,15 @@
 // Whether a formula over paths holds.
 
-ghost use Rattle.std.specs.Prelude.{◌≤◌, IfOk, MatchOption};
+ghost use Rattle.std.specs.Prelude.{ℕ, ◌≤◌, ◌↔◌, IfOk, IsTrue, MatchOption};
 ghost use Rattle.tv_program.specs.Programs.{system_of};
 ghost use Rattle.tv_formula.specs.Properties.{Property};
 ghost use Rattle.tv_cases.specs.Systems.{cases_of};
 ghost use Rattle.tv_cert.specs.Claims.{IsClaim};
-ghost use Rattle.tv_cert.specs.declared.claim.Claim.{Claim};
 ghost use Rattle.tv_farkas.specs.declared.budget.Budget.{Budget};
 ghost use Rattle.tv_pre.specs.Finding.{IsGapOf};
-ghost use Rattle.tv_pre.specs.Proving.{IsUnproved};
+ghost use Rattle.tv_pre.specs.Proving.{IsUnproved, IsWideIn};
 ghost use Rattle.tv_top.specs.Finding.{IsLabelAt, AreTooManyPieces, IsDrawnAt, NoneDraws};
-ghost use Rattle.tv_top.specs.Searching.{IsOfOne, AnswersRegion, AnswersRefusal, AnswersLeft, AnswersUnproved, IsFormulaAnswer};
+ghost use Rattle.tv_top.specs.Searching.{IsOfOne, IsUnknown, IsSameOrSettles, AnswersRegion, AnswersRefusal, AnswersLeft, AnswersWide, AnswersUnproved, IsFormulaAnswer};
 
 use crate::answer::Answer;
 use crate::cause::Cause;
@@ -20,6 +19,7 @@ use crate::search::Search;
 use crate::system_fault::unsolved;
 use std::alloc::{AllocError, Global};
 use tv_cases::Cases;
+use tv_causes::wide_column;
 use tv_pre::{Gap, PreFault, Setting, Unproved, prove};
 use tv_program::Program;
 use tv_rank::Name;
@@ -37,7 +37,7 @@ fn label_at(alloc: Global, program: &Program, location: u32) -> Result<Vec<u8>, 
     }
 }
 
-/// That so many pieces of a region are made at the location.
+/// The cause: `count` pieces of a region are made at the location.
 fn too_many_pieces(
     alloc: Global,
     program: &Program,
@@ -104,19 +104,38 @@ fn left(about: &Cases, gap: Gap) -> Answer
     }
 }
 
-/// The answer where there is no certificate of a formula.
-fn unproved(alloc: Global, program: &Program, about: &Cases, why: Unproved) -> Answer
-    requires { (claim : Claim) × (budget : Budget) × IsUnproved (cases_of about.now) claim budget why }
-    ensures { AnswersUnproved (system_of program.now) (cases_of about.now) why result }
+/// The answer where a comparison of the formula or of its negation has no rows.
+fn too_wide_comparison(alloc: Global, search: &Search) -> Answer
+    requires { (place : ℕ) × IsWideIn (cases_of search.now.about.now) search.now.claim.now place }
+    ensures { (f : Property) → IsClaim search.now.claim.now f → AnswersWide (cases_of search.now.about.now) f result }
 {
-    match why {
-        Unproved::Refused(fault) => refused(alloc, program, fault),
-        Unproved::Left(gap) => left(about, gap),
-        Unproved::Wide { place } => Answer::Unknown(Cause::WideComparison { subformula: place }),
+    let variables = search.about.variables();
+    match wide_column(
+        alloc,
+        search.claim.proved(),
+        search.claim.denied(),
+        variables,
+    ) {
+        Ok(Some(column)) => Answer::Unknown(Cause::WideComparison { column }),
+        Ok(None) => unreachable!(),
+        Err(_) => Answer::Memory,
     }
 }
 
-/// The answer to a formula that is neither termination nor the safety of a location, which is claimed.
+/// The answer where there is no certificate of a formula.
+fn unproved(alloc: Global, search: &Search, why: Unproved) -> Answer
+    requires { (budget : Budget) × IsUnproved (cases_of search.now.about.now) search.now.claim.now budget why }
+    ensures { (f : Property) → IsClaim search.now.claim.now f →
+        AnswersUnproved (system_of search.now.program.now) (cases_of search.now.about.now) f why result }
+{
+    match why {
+        Unproved::Refused(fault) => refused(alloc, search.program, fault),
+        Unproved::Left(gap) => left(search.about, gap),
+        Unproved::Wide { place: _ } => too_wide_comparison(alloc, search),
+    }
+}
+
+/// The answer to what is claimed, which is not that every run ends, by regions.
 pub(crate) fn over_paths(alloc: Global, search: &Search) -> Answer
     requires one { IsOfOne search.now }
     ensures { (f : Property) → IsClaim search.now.claim.now f → IsFormulaAnswer search.now f result }
@@ -129,6 +148,40 @@ pub(crate) fn over_paths(alloc: Global, search: &Search) -> Answer
     };
     match prove(&setting, search.claim) {
         Ok(certificate) => told(alloc, search, certificate),
-        Err(why) => unproved(alloc, search.program, search.about, why),
+        Err(why) => unproved(alloc, search, why),
+    }
+}
+
+/// Whether it is not known whether the property holds.
+fn is_unknown(answer: &Answer) -> bool
+    ensures { IsTrue result ↔ IsUnknown answer.now }
+{
+    match answer {
+        Answer::Unknown(_) => true,
+        _ => false,
+    }
+}
+
+/// Whether the rows that were found leave a point at the location that no run is to come to.
+fn is_weak(answer: &Answer) -> bool {
+    match answer {
+        Answer::Unknown(Cause::Weak { label: _, point: _ }) => true,
+        _ => false,
+    }
+}
+
+/// The answer by regions where rows do not exclude a location and regions settle it, and else the answer that was there.
+pub(crate) fn or_over_paths(alloc: Global, search: &Search, answer: Answer) -> Answer
+    requires one { IsOfOne search.now }
+    ensures { (f : Property) → IsClaim search.now.claim.now f → IsSameOrSettles search.now f answer result }
+{
+    if !is_weak(&answer) {
+        return answer;
+    }
+    let by_regions = over_paths(alloc, search);
+    if is_unknown(&by_regions) {
+        answer
+    } else {
+        by_regions
     }
 }

@@ -152,6 +152,7 @@ fn answer_to_task<S: Source>(
         Wanted::Counts(loops) => answered_of_made(alloc, task, loops, proposers),
         Wanted::Nothing => answered(alloc, task, source, proposers),
         Wanted::Certificate => answered(alloc, task, source, proposers),
+        Wanted::Trace { count: _ } => answered(alloc, task, source, proposers),
     }
 }
 

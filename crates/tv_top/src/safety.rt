@@ -34,7 +34,7 @@ fn label_of(alloc: Global, program: &Program, location: u32) -> Result<Vec<u8>, 
     Vec::from_slice(alloc, program.locations().text(location))
 }
 
-/// That the rows which were found leave this point at the location.
+/// The cause: the rows that were found leave this point at the location.
 fn weak(
     alloc: Global,
     program: &Program,
@@ -48,7 +48,7 @@ fn weak(
     Ok(Cause::Weak { label, point })
 }
 
-/// That so many paths may come to the location.
+/// The cause: `count` paths may come to the location.
 fn too_many(
     alloc: Global,
     program: &Program,
@@ -72,7 +72,7 @@ pub(crate) fn unknown(cause: Result<Cause, AllocError>) -> Answer
     }
 }
 
-/// The answer of rows that every run keeps to, and that no whole point meets at the location.
+/// The answer of rows that every run keeps to, and that no integer point meets at the location.
 fn shown(
     alloc: Global,
     search: &Search,

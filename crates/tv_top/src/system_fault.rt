@@ -17,7 +17,7 @@ pub enum SystemFault {
         row: u32,
         column: u32,
     },
-    /// The last basis of the chain gives an answer that no scale brings to whole numbers below 2^62.
+    /// The last basis of the chain gives an answer that no scale brings to integers below 2^62.
     Scale {
         basis: Vec<u32>,
     },

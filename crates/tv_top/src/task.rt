@@ -1,18 +1,18 @@
 ghost use Rattle.std.specs.Prelude.{◌≡◌, ◌↔◌, IfOk, IsTrue, map, option_map};
 ghost use Rattle.clap.specs.Walk.{first_of, rows_of};
 ghost use Rattle.clap.specs.Matches.{found_of};
-ghost use Rattle.tv_top.specs.Tasks.{is_given, query_named, query_in, limits_in, nothing_more, wanted_in, task_in, task_of};
+ghost use Rattle.tv_top.specs.Tasks.{is_given, query_named, query_in, limits_in, nothing_more, wanted_in, is_answerable, task_in, task_of};
 ghost use Rattle.tv_top.specs.Views.{query_of, limits_of, wanted_view, task_view};
 
 use crate::command::command;
-use crate::limits::{Limits, USUAL_PIECES};
+use crate::limits::{Limits, USUAL_PIECES, USUAL_PIVOTS, USUAL_SPLITS};
 use crate::numbers::{limit_of, number_within};
 use crate::wanted::{Loops, Wanted};
 use clap::ArgMatches;
 use clap::error::ErrorKind;
 use std::alloc::{AllocError, Global};
 
-/// Of which property it is asked whether it holds.
+/// A property; the question is whether it holds.
 #[derive(Clone, Copy)]
 pub enum Question<'a> {
     /// No run reaches the location with this label.
@@ -107,21 +107,29 @@ fn wanted_in(matches: &ArgMatches) -> Option<Wanted>
     ensures { option_map wanted_view result ≡ wanted_in (rows_of (found_of matches.now)) }
 {
     let writes = is_given(matches, "certificate");
-    match value_of(matches, "generate") {
-        None => {
+    match (value_of(matches, "trace"), value_of(matches, "generate")) {
+        (None, None) => {
             if writes {
                 Some(Wanted::Certificate)
             } else {
                 Some(Wanted::Nothing)
             }
         }
-        Some(word) => {
+        (Some(word), None) => {
+            if writes {
+                return None;
+            }
+            let count = number_within(word, 1000)?;
+            Some(Wanted::Trace { count })
+        }
+        (None, Some(word)) => {
             if writes {
                 return None;
             }
             let count = number_within(word, 1000)?;
             Some(Wanted::Counts(Loops { count }))
         }
+        (Some(_), Some(_)) => None,
     }
 }
 
@@ -129,8 +137,8 @@ fn wanted_in(matches: &ArgMatches) -> Option<Wanted>
 fn limits_in(matches: &ArgMatches) -> Option<Limits>
     ensures { option_map limits_of result ≡ limits_in (rows_of (found_of matches.now)) }
 {
-    let pivots = limit_of(value_of(matches, "pivots"), 1_000_000, 100_000)?;
-    let splits = limit_of(value_of(matches, "splits"), 128, 64)?;
+    let pivots = limit_of(value_of(matches, "pivots"), 1_000_000, USUAL_PIVOTS)?;
+    let splits = limit_of(value_of(matches, "splits"), 128, USUAL_SPLITS)?;
     let disjuncts = limit_of(value_of(matches, "disjuncts"), 4096, USUAL_PIECES)?;
     Some(Limits {
         pivots,
@@ -149,6 +157,18 @@ fn is_nothing(wanted: Wanted) -> bool
     }
 }
 
+/// Whether this can be written after the answer to the question: states only where it is asked whether every run ends.
+fn is_answerable(wanted: Wanted, question: Question) -> bool
+    ensures { result ≡ is_answerable (wanted_view wanted) (query_of question.entry) }
+{
+    match (wanted, question) {
+        (Wanted::Trace { count: _ }, Question::Safety(_)) => false,
+        (Wanted::Trace { count: _ }, Question::Ctl(_)) => false,
+        (Wanted::Trace { count: _ }, Question::Termination) => true,
+        (_, _) => true,
+    }
+}
+
 /// What is asked for where the command took the words.
 fn task_in<'a>(matches: &ArgMatches<'a>) -> Option<Task<'a>>
     ensures { option_map task_view result ≡ task_in (rows_of (found_of matches.now)) }
@@ -158,6 +178,9 @@ fn task_in<'a>(matches: &ArgMatches<'a>) -> Option<Task<'a>>
     let wanted = wanted_in(matches)?;
     let checks = is_given(matches, "check");
     if checks && !is_nothing(wanted) {
+        return None;
+    }
+    if !is_answerable(wanted, question) {
         return None;
     }
     Some(Task {

@@ -15,4 +15,6 @@ pub enum Wanted {
     Certificate,
     /// How many loops, cases and obligations there are, of a program that is made.
     Counts(Loops),
+    /// The first states of the run that never ends, at most this number.
+    Trace { count: u32 },
 }

@@ -9,7 +9,7 @@ pub(crate) const DRAWS: usize = 6;
 /// How many lists of draws are tried for a case at a state.
 pub(crate) const TRIED_DRAWS: usize = 14;
 
-/// For how many cases from the start whole points of the guards are values there.
+/// For how many cases from the start integer points of the guards are values there.
 pub(crate) const GUARDED: usize = 6;
 
 /// How many lists of values at the start are made by chance.
@@ -32,7 +32,7 @@ pub(crate) const CONSTANTS: usize = 40;
 /// How many bases of a linear system are tried.
 pub const PIVOTS: u64 = 300;
 
-/// How many splits lie on a path where whole points are looked for.
+/// How many splits lie on a path where integer points are looked for.
 pub const SPLITS: u32 = 12;
 
 /// How many lists of rows a condition has at most.

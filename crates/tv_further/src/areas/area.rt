@@ -121,7 +121,7 @@ fn each_outside(
     }
 }
 
-/// Lists of rows one of which is met where none of these lists is met whole; `None` where there are too many.
+/// Lists of rows: one of the lists is met where none of these lists is met whole; `None` where there are too many.
 pub(crate) fn outside(
     alloc: Global,
     columns: usize,

@@ -43,7 +43,7 @@ pub(crate) fn growth(
     }
 }
 
-/// The row that is met where the term is not below 0 before a step over so many columns.
+/// The row that is met where the term is not below 0 before a step over `width` columns.
 pub(crate) fn not_below(
     question: &Question,
     width: usize,

@@ -80,7 +80,7 @@ fn numbered(alloc: Global, tree: &CoverTree, targets: &[Target]) -> Result<Cover
     }
 }
 
-/// A cover of the rows, over so many columns, by the targets; `None` where none was found.
+/// A cover of the rows, over `columns` columns, by the targets; `None` where none was found.
 pub(crate) fn cover_by(
     alloc: Global,
     columns: usize,

@@ -25,7 +25,7 @@ fn is_asked(rows: &[Row], row: &Row) -> bool {
     }
 }
 
-/// Puts a tightened row into the list, of which each has other coefficients.
+/// Puts a tightened row into the list. Each row of the list has other coefficients.
 fn put_strongest(row: Row, list: &mut Vec<Row>) -> Result<(), AllocError> {
     match place_of(list, &row) {
         None => list.push(row)?,

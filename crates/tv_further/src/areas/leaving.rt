@@ -82,7 +82,7 @@ fn push_shadows(
     Ok(())
 }
 
-/// Lists of rows one of which is met wherever a step from the area may lead into none of the areas; `None` where there are too many.
+/// Lists of rows: one is met wherever a step from the area may lead into none of the areas; `None` where there are too many.
 pub(crate) fn lists_leaving(
     question: &Question,
     area: &Area,

@@ -4,7 +4,7 @@ use tv_cases::Case;
 use tv_linear::{Row, push_copies};
 use tv_walks::{Effort, Question, all_put_in, may_have_point, put_in, term_of, unit_row};
 
-/// What a step makes of the variables: the term of each after it, over so many columns, of which the variables before it are the first.
+/// What a step makes of the variables: the term of each after it, over `width` columns. The first columns are the variables before it.
 #[derive(Drop)]
 pub(crate) struct Effect {
     pub width: usize,
@@ -40,7 +40,7 @@ pub(crate) fn width_of(columns: usize, case: &Case) -> usize {
     columns.saturating_add(case.draws as usize)
 }
 
-/// The terms of the variables before any step, over so many columns.
+/// The terms of the variables before any step, over `width` columns.
 fn kept_terms(alloc: Global, columns: usize, width: usize) -> Result<Vec<Row>, AllocError> {
     let mut terms = Vec::new(alloc);
     for column in 0..columns {
@@ -51,7 +51,7 @@ fn kept_terms(alloc: Global, columns: usize, width: usize) -> Result<Vec<Row>, A
     Ok(terms)
 }
 
-/// The term of a variable after the case, over so many columns; `None` where there are too many.
+/// The term of a variable after the case, over `width` columns; `None` where there are too many.
 fn case_term(
     alloc: Global,
     width: usize,
@@ -80,7 +80,7 @@ pub(crate) fn case_terms(
     Ok(terms)
 }
 
-/// The row read before any step, over so many columns, of which the variables are the first.
+/// The row read before any step, over `width` columns. The first columns are the variables.
 pub(crate) fn widened_row(
     alloc: Global,
     columns: usize,

@@ -53,7 +53,7 @@ pub(crate) struct Ranks {
 }
 
 impl Ranks {
-    /// So many areas without ranks, where others have so many.
+    /// `areas` areas without ranks, where others have `count` ranks.
     pub(crate) fn new(alloc: Global, areas: usize, count: u32) -> Result<Ranks, AllocError> {
         let mut rows = Vec::new(alloc);
         for _ in 0..areas {
@@ -298,7 +298,7 @@ pub(crate) fn ranks_of(
     ranks_among(question, &terms, areas.len(), passages, effort)
 }
 
-/// The same of so many areas, where these terms are tried.
+/// The same of `areas` areas, where these terms are tried.
 pub(crate) fn ranks_among(
     question: &Question,
     terms: &[Row],

@@ -1,7 +1,7 @@
 use crate::areas::passage::Passage;
 use std::alloc::{AllocError, Global};
 
-/// Which of so many areas are reached from which by passages over which no rank falls yet; each reaches itself.
+/// Which of `count` areas are reached from which by passages over which no rank falls yet; each reaches itself.
 #[derive(Drop)]
 pub(crate) struct Reach {
     count: usize,
@@ -25,7 +25,7 @@ impl Reach {
         Ok(reach)
     }
 
-    /// The reach of so many areas where each reaches itself alone.
+    /// The reach of `count` areas where each reaches itself alone.
     pub(crate) fn alone(alloc: Global, count: usize) -> Result<Reach, AllocError> {
         let flags = vec![in alloc; false; count.saturating_mul(count)]?;
         let mut reach = Reach { count, flags };

@@ -1,4 +1,4 @@
-// The arguments of a fixed point.
+// The arguments of a fixpoint.
 
 use crate::areas::area::{Area, each_with_each, lists_at, push_areas};
 use crate::formulas::region_part::push_into;
@@ -7,7 +7,7 @@ use tv_cert::Proof;
 use tv_linear::Row;
 use tv_walks::{Effort, Question};
 
-/// The areas of the two arguments of a fixed point.
+/// The areas of the two arguments of a fixpoint.
 #[derive(Drop)]
 pub(crate) struct Sides<'a> {
     /// Where it may go on.
@@ -54,7 +54,7 @@ impl Sides<'_> {
     }
 }
 
-/// Lists of rows one of which is met where both arguments hold at the location; `None` where there are too many.
+/// Lists of rows: one of the lists is met where both arguments hold at the location; `None` where there are too many.
 fn common_lists(
     question: &Question,
     first: &[Area],

@@ -1,4 +1,4 @@
-// The areas of a fixed point.
+// The areas of a fixpoint.
 
 use crate::areas::area::{Area, copy_of, each_with_each, lists_at, outside, push_areas};
 use crate::areas::sides::Sides;
@@ -7,7 +7,7 @@ use std::alloc::{AllocError, Global};
 use tv_linear::Row;
 use tv_walks::{Effort, Question};
 
-/// The pieces of a fixed point: the first so many are at the end, and the others go on.
+/// The pieces of a fixpoint: the first `done` are at the end, and the others go on.
 #[derive(Drop)]
 pub(crate) struct Stages {
     pub done: usize,
@@ -26,7 +26,7 @@ pub(crate) fn push_copied(
     Ok(())
 }
 
-/// Lists of rows one of which is met where the fixed point may go on at the location and is not at the end; `None` where there are too many.
+/// Lists of rows: one is met where the fixpoint may go on at the location and is not at the end; `None` where there are too many.
 fn going_lists(
     question: &Question,
     sides: &Sides,

@@ -22,7 +22,7 @@ fn push_term(
     Ok(())
 }
 
-/// The opposite of the row over so many columns; `None` where it is too wide.
+/// The opposite of the row over `columns` columns; `None` where it is too wide.
 fn opposite_of(alloc: Global, columns: usize, row: &Row) -> Result<Option<Row>, AllocError> {
     match number_row(alloc, columns, 0)? {
         None => Ok(None),

@@ -51,7 +51,7 @@ fn add_plain(
     Ok(is_shown)
 }
 
-/// Lists of rows one of which is met where the formula, which has no arguments, holds at the location.
+/// Lists of rows: one of the lists is met where the formula, which has no arguments, holds at the location.
 fn lists_where(alloc: Global, aim: &Aim, location: u32) -> Result<Vec<Vec<Row>>, AllocError> {
     let mut lists = Vec::new(alloc);
     match aim {

@@ -1,4 +1,4 @@
-// Closed cycles inside of the hold side of a fixed point that may go on for ever.
+// Closed cycles inside of the hold side of a fixpoint that may go on for ever.
 
 use crate::areas::area::{Area, place_among};
 use crate::areas::covers::cover_into;

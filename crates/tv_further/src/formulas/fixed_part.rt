@@ -1,4 +1,4 @@
-// Fixed points: the first of the ways that finds something is taken, and what it finds grows by rounds.
+// Fixpoints: the first of the ways that finds something is taken, and what it finds grows by rounds.
 
 use crate::areas::sides::{Sides, common_areas};
 use crate::formulas::cycles_within::with_cycles;
@@ -32,7 +32,7 @@ fn any_until(
     Ok(better(chosen, ranked))
 }
 
-/// What a way finds of a fixed point that comes to the end.
+/// What a way finds of a fixpoint that comes to the end.
 fn first_ending(
     question: &Question,
     path: &Path,
@@ -45,7 +45,7 @@ fn first_ending(
     }
 }
 
-/// What the ways find of a fixed point that comes to the end: at least the end, and layers from there on where areas may be missing.
+/// What the ways find of a fixpoint that comes to the end: at least the end, and layers from there on where areas may be missing.
 fn ending(
     question: &Question,
     path: &Path,
@@ -65,7 +65,7 @@ fn ending(
     }
 }
 
-/// What a way finds of a fixed point that may go on for ever, to which areas are added: at least the end.
+/// What a way finds of a fixpoint that may go on for ever, to which areas are added: at least the end.
 fn first_keeping(
     question: &Question,
     path: &Path,
@@ -122,7 +122,7 @@ fn with_stops(
     }
 }
 
-/// What the ways find of a fixed point that may go on for ever.
+/// What the ways find of a fixpoint that may go on for ever.
 fn keeping(
     question: &Question,
     path: &Path,
@@ -144,7 +144,7 @@ fn keeping(
     }
 }
 
-/// What the ways find of a fixed point with these arguments.
+/// What the ways find of a fixpoint with these arguments.
 fn found_by_ways(
     question: &Question,
     path: &Path,
@@ -158,7 +158,7 @@ fn found_by_ways(
     }
 }
 
-/// What is found of a fixed point whose arguments both are to hold at the end.
+/// What is found of a fixpoint whose arguments both are to hold at the end.
 fn found_with_both<'a>(
     question: &Question,
     path: &Path,
@@ -180,7 +180,7 @@ fn found_with_both<'a>(
     found_by_ways(question, path, shape, &sides, effort)
 }
 
-/// What is found of a fixed point whose second argument is to hold at the end.
+/// What is found of a fixpoint whose second argument is to hold at the end.
 fn found_with_second<'a>(
     question: &Question,
     path: &Path,
@@ -207,7 +207,7 @@ fn children_of(alloc: Global, first: Part, second: Part) -> Result<Vec<Node>, Al
     Ok(children)
 }
 
-/// The part of a fixed point with these arguments; `None` where no way finds one.
+/// The part of a fixpoint with these arguments; `None` where no way finds one.
 pub(crate) fn fixed_part(
     question: &Question,
     path: &Path,

@@ -1,4 +1,4 @@
-// What a way to settle a fixed point finds.
+// What a way to settle a fixpoint finds.
 
 use crate::areas::ranks::Ranks;
 use crate::areas::sides::Sides;
@@ -10,7 +10,7 @@ use tv_linear::Row;
 use tv_shape::node_of;
 use tv_walks::{Effort, Question};
 
-/// Areas where a fixed point holds, and what shows it.
+/// Areas where a fixpoint holds, and what shows it.
 #[derive(Drop)]
 pub(crate) struct Found {
     /// The areas, those at the end first.
@@ -45,7 +45,7 @@ pub(crate) fn better(first: Option<Ended>, second: Option<Ended>) -> Option<Ende
     }
 }
 
-/// The areas at the end alone, with so many ranks for others; `None` where one of them is not shown to be at the end.
+/// The areas at the end alone, with `count` ranks for others; `None` where one of them is not shown to be at the end.
 pub(crate) fn end_alone(
     question: &Question,
     sides: &Sides,

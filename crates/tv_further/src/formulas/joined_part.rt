@@ -1,4 +1,4 @@
-// Formulas all of which are to hold, or one of which is.
+// Formulas that are all to hold, or where one is to hold.
 
 use crate::areas::area::{Area, each_with_each, lists_at, push_areas};
 use crate::areas::stages::push_copied;
@@ -49,7 +49,7 @@ fn lists_with(
     each_with_each(question.alloc, columns, lists, &more, effort)
 }
 
-/// The part of formulas all of which are to hold.
+/// The part of formulas that are all to hold.
 pub(crate) fn each_of(
     question: &Question,
     parts: Vec<Part>,
@@ -112,7 +112,7 @@ fn push_each(
     Ok(true)
 }
 
-/// The part of formulas one of which is to hold.
+/// The part of formulas where one is to hold.
 pub(crate) fn one_of(
     question: &Question,
     parts: Vec<Part>,

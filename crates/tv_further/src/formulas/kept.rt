@@ -27,7 +27,7 @@ pub(crate) enum Staying {
     Any,
 }
 
-/// Areas some of which are known to hold.
+/// Areas, with some that are known to hold.
 #[derive(Drop)]
 struct Keeping {
     /// How many are known to hold.
@@ -173,7 +173,7 @@ fn push_parts(
     Ok(())
 }
 
-/// Cuts the area at this place, of which the parts that are kept come to the end of the list; whether it was cut.
+/// Cuts the area at this place; whether it was cut. Its parts that are kept come to the end of the list.
 fn cut_at(
     question: &Question,
     staying: Staying,
@@ -198,7 +198,7 @@ fn cut_at(
     }
 }
 
-/// Cuts each area that is not known to hold, the last first, so that what is cut at one location tells at those before it in the same round.
+/// Cuts each area that is not known to hold, the last first, so that what is cut at one location counts at those before it in the same round.
 /// Whether one was cut.
 fn cut_all(
     question: &Question,
@@ -216,7 +216,7 @@ fn cut_all(
     Ok(fewer)
 }
 
-/// The areas after at most so many rounds of cuts, and after that without those that are not kept whole; `None` where too many are left.
+/// The areas after at most `rounds` rounds of cuts, and after that without those that are not kept whole; `None` where too many are left.
 fn settled(
     question: &Question,
     staying: Staying,
@@ -282,7 +282,7 @@ pub(crate) struct Seeking<'a> {
     pub rounds: usize,
 }
 
-/// What was found of a fixed point that may go on for ever, and areas of the hold side that stay.
+/// What was found of a fixpoint that may go on for ever, and areas of the hold side that stay.
 pub(crate) fn with_kept(
     question: &Question,
     sides: &Sides,

@@ -1,4 +1,4 @@
-// Fixed points that come to an end, layer by layer from what was found before: from each area of a layer one step leads into earlier ones.
+// Fixpoints that come to an end, layer by layer from what was found before: from each area of a layer one step leads into earlier ones.
 // The first rank is the number of the layer, so it falls.
 
 use crate::areas::area::Area;
@@ -166,7 +166,7 @@ fn add_layer(
     Ok(())
 }
 
-/// What was found of a fixed point that comes to an end, and layers from there on, until none adds an area or there are many.
+/// What was found of a fixpoint that comes to an end, and layers from there on, until none adds an area or there are many.
 pub(crate) fn with_layers(
     question: &Question,
     path: &Path,

@@ -56,7 +56,7 @@ pub(crate) fn piece_of(
     )
 }
 
-/// The pieces of the areas, all of which go on without ranks.
+/// The pieces of the areas, which all go on without ranks.
 fn plain_pieces(
     alloc: Global,
     columns: usize,
@@ -123,7 +123,7 @@ pub(crate) fn push_into(
     push_cover(proofs, cover)
 }
 
-/// The areas where the case leads, as targets without a fall: the first so many of them, or all.
+/// The areas where the case leads, as targets without a fall: those among the first `most` areas.
 pub(crate) fn targets_after(
     question: &Question,
     case: &Case,
@@ -216,7 +216,7 @@ pub(crate) fn push_some_step(
     push_choice(question, area, &moves, effort, proofs)
 }
 
-/// The parts of the area from each of which some case can be taken: the area itself, if it is so everywhere.
+/// The parts of the area where some case can be taken from each part: the area itself, if it is so everywhere.
 pub(crate) fn live_parts(
     question: &Question,
     area: &Area,
@@ -233,7 +233,7 @@ pub(crate) fn live_parts(
     }
 }
 
-/// The parts of the area from each of which one of the moves can be made, none of them inside of an earlier one.
+/// The parts of the area where one of the moves can be made from each part. None of them lies inside of an earlier one.
 fn parts_by(
     question: &Question,
     area: &Area,

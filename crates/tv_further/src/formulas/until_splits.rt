@@ -232,7 +232,7 @@ fn split_by_kept(
     split_by_first(question, stages, &stuck.places, &kept, effort)
 }
 
-/// The same by the first row that tells where a term falls over one of the passages.
+/// The same by the first row that says where a term falls over one of the passages.
 fn split_by_falls(
     question: &Question,
     stages: &Stages,

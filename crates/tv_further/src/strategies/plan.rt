@@ -186,7 +186,7 @@ fn split_by(alloc: Global, row: Row, holds: Plan, fails: Plan) -> Result<Plan, A
     Ok(Plan::Split(row, holds, fails))
 }
 
-/// The plan at the states that meet these rows, below which so many splits may lie; `None` where some of them have no link.
+/// The plan at the states that meet these rows, with at most `left` splits on a path; `None` where some of them have no link.
 fn plan_at(
     planner: &Planner,
     known: Vec<Row>,

@@ -75,7 +75,7 @@ impl<'a> Field<'a> {
         Ok(change)
     }
 
-    /// Which of so many areas are reached from which over the links.
+    /// Which of `areas` areas are reached from which over the links.
     pub(crate) fn reach(&self, areas: usize) -> Result<Reach, AllocError> {
         let mut reach = Reach::alone(self.question.alloc, areas)?;
         for link in self.links {
@@ -183,7 +183,7 @@ impl Distances {
         }
     }
 
-    /// Sets the distances to the end that one link more tells.
+    /// Sets the distances to the end that one link more gives.
     fn follow_to_end(&mut self, links: &[Link], worths: &[Worth]) {
         for (link, worth) in links.iter().zip(worths) {
             if !matches!(worth, Worth::Barred)
@@ -194,7 +194,7 @@ impl Distances {
         }
     }
 
-    /// Sets the distances to a gain that one link more tells.
+    /// Sets the distances to a gain that one link more gives.
     fn follow_to_gain(&mut self, links: &[Link], worths: &[Worth]) {
         for (link, worth) in links.iter().zip(worths) {
             if let Some(left) = self.left_to_gain(link, *worth) {
@@ -203,7 +203,7 @@ impl Distances {
         }
     }
 
-    /// The distances over the links between so many areas, the first of which are at the end.
+    /// The distances over the links between `areas` areas. The first `done` of them are at the end.
     fn new(
         alloc: Global,
         areas: usize,

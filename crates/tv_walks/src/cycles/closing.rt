@@ -133,7 +133,7 @@ fn with_row(
     }
 }
 
-/// Rows with these among them that hold again after the walk, within so many tries; `None` where none were found.
+/// Rows with these among them that hold again after the walk, within `tries` tries; `None` where none were found.
 fn closed_rows(
     alloc: Global,
     closing: &Closing,

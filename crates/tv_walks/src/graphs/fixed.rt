@@ -1,4 +1,4 @@
-// Nodes of fixed points in a graph.
+// Nodes of fixpoints in a graph.
 
 use crate::graphs::choosing::push_successor;
 use crate::graphs::graph::Graph;
@@ -12,7 +12,7 @@ use std::alloc::{AllocError, Global};
 use tv_cert::Proof;
 use tv_formula::{Path, Shape};
 
-/// A fixed point, and the nodes of its arguments.
+/// A fixpoint, and the nodes of its arguments.
 #[derive(Drop)]
 pub(crate) struct Fixed {
     pub path: Path,
@@ -21,7 +21,7 @@ pub(crate) struct Fixed {
     pub second: Made,
 }
 
-/// Whether ranks fall in the fixed point.
+/// Whether ranks fall in the fixpoint.
 pub(crate) fn has_falls(shape: Shape) -> bool {
     match shape {
         Shape::Until | Shape::Strong => true,
@@ -94,7 +94,7 @@ fn owes_successor(path: Path, shape: Shape) -> bool {
     }
 }
 
-/// The proofs of a fixed point.
+/// The proofs of a fixpoint.
 fn fixed_proofs(
     question: &Question,
     graph: &Graph,
@@ -117,7 +117,7 @@ fn fixed_proofs(
     Ok(Some(proofs))
 }
 
-/// The node of a fixed point at the selected states.
+/// The node of a fixpoint at the selected states.
 pub(crate) fn fixed_node(
     question: &Question,
     graph: &Graph,
@@ -151,14 +151,14 @@ pub(crate) fn fixed_node(
     Made::new(question, graph, layers, marks, selected, parts)
 }
 
-/// The arguments of a fixed point that its states need: where they go on, and where they are at the end.
+/// The arguments of a fixpoint that its states need: where they go on, and where they are at the end.
 #[derive(Drop)]
 pub(crate) struct Needed {
     pub first: Vec<bool>,
     pub second: Vec<bool>,
 }
 
-/// Which states need the arguments of a fixed point.
+/// Which states need the arguments of a fixpoint.
 pub(crate) fn needed_of(
     alloc: Global,
     shape: Shape,

@@ -13,7 +13,7 @@ pub(crate) enum Sign {
     Turned,
 }
 
-/// The known rows at a state: two for each of so many variables, and then so many guards.
+/// The known rows at a state: two for each of `variables` variables, and then `guards` guards.
 #[derive(Clone, Copy)]
 pub(crate) struct Known {
     pub variables: usize,
@@ -47,7 +47,7 @@ fn multipliers_of(
     Ok(multipliers)
 }
 
-/// Puts so many zeros at the end of the list.
+/// Puts `count` zeros at the end of the list.
 fn push_zeros(list: &mut Vec<i64>, count: usize) -> Result<(), AllocError> {
     for _ in 0..count {
         list.push(0)?;
@@ -68,7 +68,7 @@ pub(crate) fn line_of(
     Ok(line)
 }
 
-/// The line that shows a row without variables where there are so many known rows.
+/// The line that shows a row without variables where there are `known` known rows.
 pub(crate) fn plain_line(alloc: Global, known: usize) -> Result<Vec<i64>, AllocError> {
     let mut line = Vec::new(alloc);
     push_zeros(&mut line, known)?;

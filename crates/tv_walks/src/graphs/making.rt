@@ -109,7 +109,7 @@ fn push_one(
     }
 }
 
-/// The node of formulas all of which hold at these states.
+/// The node of formulas that all hold at these states.
 fn each_of(
     question: &Question,
     graph: &Graph,
@@ -127,7 +127,7 @@ fn each_of(
     Made::new(question, graph, &[], Marks::Plain, selected, parts)
 }
 
-/// The node of formulas one of which holds at each of these states.
+/// The node of formulas where one of them holds at each of these states.
 fn one_of(
     question: &Question,
     graph: &Graph,
@@ -252,7 +252,7 @@ fn endings(
     Made::new(question, graph, layers, marks, selected, parts)
 }
 
-/// The states of a fixed point and of what follows them, and those at which its arguments are needed.
+/// The states of a fixpoint and of what follows them, and those at which its arguments are needed.
 fn needed_along(
     question: &Question,
     graph: &Graph,
@@ -316,7 +316,7 @@ pub(crate) fn made_of(
     }
 }
 
-/// The node of formulas all of which hold at these states.
+/// The node of formulas that all hold at these states.
 #[cycle(nodes)]
 fn each_made(
     question: &Question,
@@ -336,7 +336,7 @@ fn each_made(
     each_of(question, graph, selected, list)
 }
 
-/// The node of formulas one of which holds at each of these states, which is shown by the first that does.
+/// The node of formulas where one of them holds at each of these states. The first that does shows it.
 #[cycle(nodes)]
 fn first_made(
     question: &Question,

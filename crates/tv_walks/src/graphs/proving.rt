@@ -150,7 +150,7 @@ pub(crate) fn push_entering(
     push_falls(alloc, count, fall, lines)
 }
 
-/// Puts the lines of the fall from a layer to a lower one, where one is owed, at the end of the list; there are so many known rows.
+/// Puts the lines of the fall from a layer to a lower one, where one is owed, at the end of the list; `known` counts the known rows.
 pub(crate) fn push_falls(
     alloc: Global,
     known: usize,
@@ -237,7 +237,7 @@ pub(crate) fn push_steps(
     Ok(true)
 }
 
-/// The row of a number over so many variables.
+/// The row of a number over `variables` variables.
 pub fn number_row(alloc: Global, variables: usize, number: i64) -> Result<Option<Row>, AllocError>
     ensures { IfOk result (λ made. IfSome made (λ row. length row.coefficients ≡ variables)) }
 {

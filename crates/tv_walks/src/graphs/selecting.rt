@@ -28,7 +28,7 @@ pub(crate) fn set(flags: &mut Vec<bool>, place: usize) -> bool {
     }
 }
 
-/// So many flags, none of which is set.
+/// `count` flags that are not set.
 pub(crate) fn unset(alloc: Global, count: usize) -> Result<Vec<bool>, AllocError> {
     let flags = vec![in alloc; false; count]?;
     Ok(flags)

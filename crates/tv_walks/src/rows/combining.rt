@@ -53,7 +53,7 @@ fn row_of(
     Row::new(alloc, coefficients, constant)
 }
 
-/// The row with a term of so many columns put in for each of its columns.
+/// The row with a term of `columns` columns put in for each of its columns.
 pub fn put_in(
     alloc: Global,
     columns: usize,
@@ -92,7 +92,7 @@ pub fn all_put_in(
     Ok(Some(all))
 }
 
-/// The first row less the second, over so many columns.
+/// The first row less the second, over `columns` columns.
 pub fn less(
     alloc: Global,
     columns: usize,
@@ -117,7 +117,7 @@ pub fn less(
     )
 }
 
-/// The sum of a multiple of each of two rows, over so many columns.
+/// The sum of a multiple of each of two rows, over `columns` columns.
 pub fn with_multiples(
     alloc: Global,
     columns: usize,

@@ -41,7 +41,7 @@ fn lists_copied(alloc: Global, lists: &[Vec<Row>]) -> Result<Vec<Vec<Row>>, Allo
     Ok(all)
 }
 
-/// Lists of rows one of which is met where the formula holds at the location, as far as it can be told from values.
+/// Lists of rows: one of the lists is met where the formula holds at the location, as far as this can be seen from values.
 #[cycle(conditions)]
 pub(crate) fn conditions_at(
     alloc: Global,

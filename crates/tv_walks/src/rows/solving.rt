@@ -28,7 +28,7 @@ pub struct Effort {
 }
 
 impl Effort {
-    /// An effort of so many calls of the solver.
+    /// An effort of `calls` calls of the solver.
     pub fn of(calls: usize) -> Effort
         ensures { result ≡ record { left = calls; states = 0 } }
     {
@@ -88,7 +88,7 @@ fn without_variable<'a>(
     Ok(left)
 }
 
-/// The rows without those that a variable can meet by itself, since it has one sign in all of them: each of so many columns is looked at.
+/// The rows without those that a variable can meet by itself, since it has one sign in all of them. Each of `columns` columns is looked at.
 fn without_free<'a>(
     alloc: Global,
     rows: Vec<&'a Row>,
@@ -119,7 +119,7 @@ fn are_met_somewhere(alloc: Global, rows: &[Row], columns: usize) -> Result<bool
     Ok(left.iter().all(|row| is_number(row) && row.constant() <= 0))
 }
 
-/// What the solver says of rows with so many columns; `None` where it does not settle them, or is not asked since some point meets them.
+/// What the solver says of rows with `columns` columns; `None` where it does not settle them, or is not asked since some point meets them.
 fn refuted(
     alloc: Global,
     rows: &[Row],
@@ -200,7 +200,7 @@ fn place_showing(known: &[Row], row: &Row) -> Option<usize> {
     })
 }
 
-/// The multipliers of so many rows and a denial, which are 1 at the place and at the denial, and 0 else.
+/// The multipliers of `rows` rows and a denial, which are 1 at the place and at the denial, and 0 else.
 fn pair_of(alloc: Global, rows: usize, place: usize) -> Result<Vec<i64>, AllocError> {
     let mut line = vec![in alloc; 0; rows]?;
     if let Some(number) = line.get_mut(place) {
@@ -326,7 +326,7 @@ fn all_bounded(alloc: Global, numbers: &[i128]) -> Result<Option<Vec<i64>>, Allo
     Ok(Some(values))
 }
 
-/// Whole numbers that meet the rows; `None` where none were found that are not too large.
+/// Integers that meet the rows; `None` where none were found that are not too large.
 pub fn whole_point(
     alloc: Global,
     rows: &[Row],

@@ -15,7 +15,7 @@ use Rattle.tv_cert.proofs.VisitLemmas.{ahead_end, ahead_fails, ahead_next, ahead
 use Rattle.tv_cert.proofs.visiting.visit_steps.Goals as goal
 use Rattle.tv_places.proofs.PlaceLemmas.{past_end}
 
--- the case from a location that is told
+-- the case from a location is also the case from an equal location
 case_at : (cases : List LinearCase) (k : ℕ) (case : Option LinearCase) (l m : ℕ) → l ≡ m → slice_get (leaving l cases) k ≡ case → slice_get (leaving m cases) k ≡ case
 case_at cases k case l m e h = ap (λ l. slice_get (leaving l cases) k) (sym e) ∙ h
 

@@ -33,7 +33,7 @@ returns-in-Ok-Emptied-clause-parted c =
     let g = subst (λ z. IsGreedy about known c.in-Ok-from_slice.set.items z) c.in-Ok-Emptied.field-0-is c.in-Ok-Emptied.ensures.greedy in
     record {
       sorted = c.in-Ok.ensures.sorted;
-      chain = subst (λ z. Chain about known z c.in-Ok-Emptied.rounds.items) e (emptied_chain about known c.in-Ok-from_slice.set.items c.in-Ok-Emptied.rounds.items g);
+      chain = rw (← e) (emptied_chain about known c.in-Ok-from_slice.set.items c.in-Ok-Emptied.rounds.items g);
     }
 
 pub returns-in-Ok-Left-clause-never_stuck : goal.returns-in-Ok-Left-clause-never_stuck
@@ -43,7 +43,7 @@ returns-in-Ok-Left-clause-never_stuck c =
     let e : c.in-Ok-from_slice.set.items ≡ c.in-Ok.sorted.set.items = search rules in
     let g = subst (λ z. IsGreedy about known c.in-Ok.sorted.set.items z) c.in-Ok-Left.field-0-is (subst (λ z. IsGreedy about known z c.in-Ok-Left.field-0) e c.in-Ok-Left.ensures.greedy) in
     stuck_unranked about known c.in-Ok-Left.left.items (lists c.in-Ok-Left.barriers.items)
-    (stuck_left about known c.in-Ok.sorted.set.items c.in-Ok-Left.left c.in-Ok-Left.barriers c.in-Ok.ensures.sorted.ascends
+    (stuck_left about known c.in-Ok.sorted.set.items c.in-Ok-Left._rounds c.in-Ok-Left.left c.in-Ok-Left.barriers c.in-Ok.ensures.sorted.ascends
     (are_inside about known c.args.component.now.numbers.now c.args.component.now.number c.in-Ok.sorted.set.items c.in-Ok.sorted.empty.items (lists c.in-Ok.sorted.refutations.items) c.args.component.now.about.now.are_cases c.requires.grouped c.in-Ok.ensures.sorted) g)
 
 pub returns-in-Ok-Left-clause-parted : goal.returns-in-Ok-Left-clause-parted
@@ -52,5 +52,5 @@ returns-in-Ok-Left-clause-parted c =
     let known = c.args.component.now.known.now.pieces.items in
     let e : c.in-Ok-from_slice.set.items ≡ c.in-Ok.sorted.set.items = search rules in
     let g = subst (λ z. IsGreedy about known c.in-Ok.sorted.set.items z) c.in-Ok-Left.field-0-is (subst (λ z. IsGreedy about known z c.in-Ok-Left.field-0) e c.in-Ok-Left.ensures.greedy) in
-    stuck_left about known c.in-Ok.sorted.set.items c.in-Ok-Left.left c.in-Ok-Left.barriers c.in-Ok.ensures.sorted.ascends
+    stuck_left about known c.in-Ok.sorted.set.items c.in-Ok-Left._rounds c.in-Ok-Left.left c.in-Ok-Left.barriers c.in-Ok.ensures.sorted.ascends
     (are_inside about known c.args.component.now.numbers.now c.args.component.now.number c.in-Ok.sorted.set.items c.in-Ok.sorted.empty.items (lists c.in-Ok.sorted.refutations.items) c.args.component.now.about.now.are_cases c.requires.grouped c.in-Ok.ensures.sorted) g

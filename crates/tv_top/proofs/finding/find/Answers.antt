@@ -11,6 +11,7 @@ settle-requires g c =
     record {
       same_program = c.requires.same_program;
       same_steps = c.requires.same_steps;
+      are_cases = c.requires.are_cases;
       variables = c.in-Ok.ensures.variables ∙ c.requires.variables ∙ sym c.requires.same_program.variables;
       denies = is.denied ∙ sym (negation_of_normal f) ∙ ap negation (sym is.proved);
     }

@@ -33,3 +33,7 @@ returns-clause-numbers c = refl
 pub returns-clause-generated : goal.returns-clause-generated
 unfolding clap_on_literals
 returns-clause-generated c = refl
+
+pub returns-clause-traced : goal.returns-clause-traced
+unfolding clap_on_literals
+returns-clause-traced c = refl

@@ -61,3 +61,31 @@ returns-clause-made_and_written c = refl
 pub returns-clause-made_and_checked : goal.returns-clause-made_and_checked
 unfolding clap_on_literals
 returns-clause-made_and_checked c = refl
+
+pub returns-clause-no_states : goal.returns-clause-no_states
+unfolding clap_on_literals
+returns-clause-no_states c = refl
+
+pub returns-clause-many_states : goal.returns-clause-many_states
+unfolding clap_on_literals
+returns-clause-many_states c = refl
+
+pub returns-clause-traced_alone : goal.returns-clause-traced_alone
+unfolding clap_on_literals
+returns-clause-traced_alone c = refl
+
+pub returns-clause-traced_and_checked : goal.returns-clause-traced_and_checked
+unfolding clap_on_literals
+returns-clause-traced_and_checked c = refl
+
+pub returns-clause-traced_and_written : goal.returns-clause-traced_and_written
+unfolding clap_on_literals
+returns-clause-traced_and_written c = refl
+
+pub returns-clause-traced_formula : goal.returns-clause-traced_formula
+unfolding clap_on_literals
+returns-clause-traced_formula c = refl
+
+pub returns-clause-traced_and_made : goal.returns-clause-traced_and_made
+unfolding clap_on_literals
+returns-clause-traced_and_made c = refl

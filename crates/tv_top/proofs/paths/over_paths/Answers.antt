@@ -9,7 +9,7 @@ returns-in-Err c = λ f is.
     let claim = search.claim.now in
     inr (
       c.in-Err.why,
-      c.unproved.ensures,
+      c.unproved.ensures f is,
       record {
         claim = claim;
         is_claim = is;
@@ -19,4 +19,4 @@ returns-in-Err c = λ f is.
     )
 
 pub unproved-requires : goal.unproved-requires
-unproved-requires c = (c.args.search.now.claim.now, c.budget_of-budget.result, c.in-Err.ensures.unproved)
+unproved-requires c = (c.budget_of-budget.result, c.in-Err.ensures.unproved)

@@ -1,0 +1,15 @@
+mod RankLemmas
+mod EnterLemmas
+mod Moving
+mod Paired
+mod Steps
+mod Soundness
+mod Walking
+mod EntranceLemmas
+mod MarkLemmas
+mod CaseLemmas
+mod Assumed
+mod Doubled
+mod Marked
+mod SplitSteps
+mod Answered

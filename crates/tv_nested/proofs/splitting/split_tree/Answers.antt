@@ -1,0 +1,13 @@
+use Rattle.std.proofs.Common.{◌≡◌, ◌+◌, ◌-◌, length, arith, subst}
+use Rattle.tv_nested.specs.Splitting.{IsSplitFrom}
+use Rattle.tv_nested.proofs.splitting.split_tree.Goals as goal
+
+pub split_at-requires-clause-rest : goal.split_at-requires-clause-rest
+split_at-requires-clause-rest c =
+    let t = c.rows-test.true in
+    c.rows.invariant _ (omega (arith, t))
+
+pub rows-preserved : goal.rows-preserved
+rows-preserved c = λ p e.
+    let t = c.rows-test.true in
+    subst (λ k. IsSplitFrom c.args.rows.now k c.args.before c.args.fall.now c.in_ok-tree-2.tree) (let q : length c.args.rows.now - 1 - c.rows.turn ≡ p = omega (arith, t, e) in q) c.in_ok-tree-2.ensures

@@ -1,0 +1,17 @@
+pub mod NestedSystem
+pub mod Questions
+pub mod Tuples
+pub mod Reading
+pub mod Families
+pub mod ReadOff
+pub mod Answers
+pub mod Depths
+pub mod Found
+pub mod Lines
+pub mod Signs
+pub mod SignFaults
+pub mod Splitting
+pub mod Steps
+pub mod Parts
+pub mod Nested
+pub mod SetFalls

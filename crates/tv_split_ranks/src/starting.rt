@@ -1,0 +1,166 @@
+// The places that the search begins with.
+
+use crate::budget::Spending;
+use crate::effect::{Effect, Steps};
+use crate::place::{Origin, Place, place_of};
+use crate::strongest::push_strongest;
+use std::alloc::AllocError;
+use tv_candidates::Candidate;
+use tv_linear::{Row, copies};
+use tv_walks::{denied, is_known, is_without_draws, less, number_row};
+
+/// Which places the search begins with.
+#[derive(Clone, Copy)]
+pub(crate) enum Beginning {
+    /// Each location whole.
+    Locations,
+    /// Each location, with the rows that are known there.
+    Known,
+    /// Each case, with the rows that hold after it, and the location where runs begin.
+    Cases,
+}
+
+/// Copies of the rows that are known at the location.
+fn known_at(steps: &Steps, known: &[Candidate], location: u32) -> Result<Vec<Row>, AllocError> {
+    let mut rows = Vec::new(steps.alloc);
+    for candidate in known {
+        if candidate.location == location {
+            rows.push(candidate.row.copy(steps.alloc)?)?;
+        }
+    }
+    Ok(rows)
+}
+
+/// Puts the place of these rows at the end of the list, where some point may meet them.
+fn push_place(
+    steps: &Steps,
+    location: u32,
+    origin: Origin,
+    rows: &[Row],
+    places: &mut Vec<Place>,
+) -> Result<(), AllocError> {
+    let name = places.len();
+    if let Some(place) = place_of(steps.alloc, location, origin, rows, name)? {
+        places.push(place)?;
+    }
+    Ok(())
+}
+
+/// Each location, with the rows that are known there.
+fn whole_places(steps: &Steps, known: &[Candidate]) -> Result<Vec<Place>, AllocError> {
+    let mut places = Vec::new(steps.alloc);
+    for location in 0..steps.locations {
+        let rows = known_at(steps, known, location)?;
+        push_place(steps, location, Origin::Any, &rows, &mut places)?;
+    }
+    Ok(places)
+}
+
+/// Puts the row over the variables at the end of the list, where it holds after each step by the case from states that meet the rows.
+fn push_held(
+    steps: &Steps,
+    effect: &Effect,
+    before: &[Row],
+    row: &Row,
+    spending: &mut Spending,
+    held: &mut Vec<Row>,
+) -> Result<(), AllocError> {
+    let alloc = steps.alloc;
+    if let Some(after) = effect.after(alloc, row)?
+        && is_known(alloc, before, &after, effect.width, &mut spending.effort)?
+    {
+        let _ = push_strongest(alloc, row, held)?;
+    }
+    Ok(())
+}
+
+/// The same of the row and its denial.
+fn push_held_or_denied(
+    steps: &Steps,
+    effect: &Effect,
+    before: &[Row],
+    row: &Row,
+    spending: &mut Spending,
+    held: &mut Vec<Row>,
+) -> Result<(), AllocError> {
+    push_held(steps, effect, before, row, spending, held)?;
+    if let Some(denial) = denied(steps.alloc, row)? {
+        push_held(steps, effect, before, &denial, spending, held)?;
+    }
+    Ok(())
+}
+
+/// Puts those of the guards over the variables, or of their denials, that hold after the case at the end of the list.
+fn push_held_guards(
+    steps: &Steps,
+    effect: &Effect,
+    before: &[Row],
+    guards: &[Row],
+    spending: &mut Spending,
+    held: &mut Vec<Row>,
+) -> Result<(), AllocError> {
+    let alloc = steps.alloc;
+    for guard in guards {
+        if is_without_draws(guard, steps.columns)
+            && let Some(zero) = number_row(alloc, steps.columns, 0)?
+            && let Some(row) = less(alloc, steps.columns, guard, &zero)?
+        {
+            push_held_or_denied(steps, effect, before, &row, spending, held)?;
+        }
+    }
+    Ok(())
+}
+
+/// The rows that are known to hold after the case: those known at its end, and guards there that hold after it.
+fn rows_after(
+    steps: &Steps,
+    known: &[Candidate],
+    effect: &Effect,
+    spending: &mut Spending,
+) -> Result<Vec<Row>, AllocError> {
+    let alloc = steps.alloc;
+    let mut held = known_at(steps, known, effect.to)?;
+    let mut before = copies(alloc, &effect.guards)?;
+    for row in known_at(steps, known, effect.from)? {
+        if let Some(row) = effect.before(alloc, &row)? {
+            before.push(row)?;
+        }
+    }
+    for next in &steps.effects {
+        if next.from == effect.to {
+            push_held_guards(steps, effect, &before, &next.guards, spending, &mut held)?;
+        }
+    }
+    Ok(held)
+}
+
+/// A place for each case, with the rows that hold after it, and one where runs begin.
+fn places_after(
+    steps: &Steps,
+    known: &[Candidate],
+    spending: &mut Spending,
+) -> Result<Vec<Place>, AllocError> {
+    let mut places = Vec::new(steps.alloc);
+    let start = steps.start;
+    let rows = known_at(steps, known, start)?;
+    push_place(steps, start, Origin::Start, &rows, &mut places)?;
+    for (number, effect) in steps.effects.iter().enumerate() {
+        let rows = rows_after(steps, known, effect, spending)?;
+        push_place(steps, effect.to, Origin::Case(number), &rows, &mut places)?;
+    }
+    Ok(places)
+}
+
+/// The places that the search begins with; there may be too many.
+pub(crate) fn first_places(
+    steps: &Steps,
+    known: &[Candidate],
+    beginning: Beginning,
+    spending: &mut Spending,
+) -> Result<Vec<Place>, AllocError> {
+    match beginning {
+        Beginning::Locations => whole_places(steps, &[]),
+        Beginning::Known => whole_places(steps, known),
+        Beginning::Cases => places_after(steps, known, spending),
+    }
+}

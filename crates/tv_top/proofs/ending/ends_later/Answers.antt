@@ -1,0 +1,31 @@
+use Rattle.std.proofs.Common.{◌≡◌, ◌∙◌, ap, sym, subst}
+use Rattle.tv_program.specs.Programs.{system_of}
+use Rattle.tv_formula.specs.Normal.{normal, negation}
+use Rattle.tv_formula.specs.Properties.{term}
+use Rattle.tv_cases.specs.Systems.{cases_of}
+use Rattle.tv_invariant.specs.Asking.{Gave}
+use Rattle.tv_recur.specs.Refusing.{IsRefusal}
+use Rattle.tv_top.specs.Finding.{Offers, Finds}
+use Rattle.tv_top.specs.Views.{task_view}
+use Rattle.tv_top.proofs.Found.{settles_found, round_so}
+use Rattle.tv_top.proofs.ending.ends_later.Goals as goal
+
+pub endless_run-requires-clause-denied : goal.endless_run-requires-clause-denied
+endless_run-requires-clause-denied g c = c.requires.one.denies ∙ ap negation c.requires.ends
+
+pub returns-in-Ok-Some : goal.returns-in-Ok-Some
+returns-in-Ok-Some g c = λ f is.
+    let search = c.args.search.now in
+    let offers : Offers = λ about. Gave (λ p. (goal.Proposer-dyn g (p.vtable, p.value)).rest p.value about) c.args.proposers.now.items in
+    settles_found offers (task_view search.task.now) (system_of search.program.now) f (cases_of search.about.now) c.endless_run.result (c.endless_run.ensures f is)
+
+pub returns-in-Err : goal.returns-in-Err
+returns-in-Err g c = λ f is.
+    let search = c.args.search.now in
+    let task = task_view search.task.now in
+    let p = system_of search.program.now in
+    let about = cases_of search.about.now in
+    let n : normal f ≡ term = sym is.proved ∙ c.requires.ends in
+    let offers : Offers = λ about. Gave (λ p. (goal.Proposer-dyn g (p.vtable, p.value)).rest p.value about) c.args.proposers.now.items in
+    subst (λ answer. Finds offers task p f about answer) (sym c.uncovered.ensures)
+    (round_so offers task p f about n c.requires.stuck c.in-Err.fault (subst (λ b. IsRefusal about b c.in-Err.fault) c.requires.budget c.in-Err.ensures.refusals))

@@ -1,0 +1,13 @@
+use Rattle.tv_program.specs.Programs.{system_of}
+use Rattle.tv_cases.specs.Systems.{cases_of}
+use Rattle.tv_invariant.specs.Asking.{Gave}
+use Rattle.tv_top.specs.Finding.{Offers}
+use Rattle.tv_top.specs.Views.{task_view}
+use Rattle.tv_top.proofs.Found.{settles_found}
+use Rattle.tv_top.proofs.ending.ends_unranked.Goals as goal
+
+pub returns-in-Ok-Some : goal.returns-in-Ok-Some
+returns-in-Ok-Some g c = λ f is.
+    let search = c.args.search.now in
+    let offers : Offers = λ about. Gave (λ p. (goal.Proposer-dyn g (p.vtable, p.value)).rest p.value about) c.args.proposers.now.items in
+    settles_found offers (task_view search.task.now) (system_of search.program.now) f (cases_of search.about.now) c.told.result (c.told.ensures f is)

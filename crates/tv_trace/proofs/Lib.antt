@@ -1,0 +1,5 @@
+mod OfferLemmas
+mod SumLemmas
+mod StepLemmas
+mod RunLemmas
+mod TraceLemmas
