@@ -36,7 +36,7 @@ passed_rows rows zero = []
 passed_rows [] (suc p) = []
 passed_rows (b ∷ rows) (suc p) = denied (given b) ∷ passed_rows rows p
 
--- What leads into a target: beside so many known rows and so many of the splits above, a line for each of these, and then the lines of the
+-- What leads into a target, beside `before` known rows and under `above` splits: a line for each of these splits, and then the lines of the
 -- fall.
 abbrev pub IsEntry : ℕ → ℕ → ℕ → Fall → CoverTree → Type 0
 IsEntry target before above fall (cover.Split' r p a q b) = ⊥
@@ -54,7 +54,7 @@ LeadsFrom rows p before fall tree =
     ((q : ℕ) → q ≤ length signs → wanted q fall.number ≡ Some (map change (sign_rows signs q) ++ falls)) →
     IsMetCover n wanted (known ++ passed_rows rows p) tree
 
--- a cover that splits at the rows from a place on, one after the other, beside so many known rows, with a fall into each target
+-- a cover that splits at the rows from place p on, one after the other, beside `before` known rows, with a fall into each target
 pub record IsSplitFrom (rows : List Linear) (p before : ℕ) (fall : Fall) (tree : CoverTree) : Type 0 where
   pub leads : LeadsFrom rows p before fall tree
   pub deep : splits tree + p ≤ length rows

@@ -38,7 +38,7 @@ pub record IsSignStep (v : ℕ) (w : Way) (signs old new : List Linear) (tree : 
   pub even : TreeRows (λ r. columns r ≡ v + w.taken.draws) tree
   pub narrow : CoverNarrow tree
 
--- whatever shows a case, where so many rows are known at its start, the cover shows its step into the pieces by these signs
+-- Whatever shows a case where `before` rows are known at its start, the cover shows its step into the pieces by these signs.
 abbrev pub ShowsSignStep : ℕ → LinearCase → List Linear → ℕ → CaseShown → CoverTree → Type 0
 ShowsSignStep v c signs before shown tree =
     (known old new : List Linear) → length known ≡ before → IsShownBy v (way_with c known) old new shown → IsSignStep v (way_with c known) signs old new tree

@@ -13,7 +13,7 @@ pub enum NestName {
         round: u32,
         falling: u32,
     },
-    /// The nested system of what the rounds leave of this component, with so many terms at each location.
+    /// The nested system of what the rounds leave of this component, with `depth` terms at each location.
     Nest {
         component: u32,
         depth: u32,
