@@ -31,8 +31,8 @@ copy-among mark f [] e c = absurd (Contains-none e c)
 copy-among mark f (d ∷ es) e c = ⊎_elim (here mark) (λ later. Contains-later (copy true f d) (copy mark f e) (copy false f d ∷ flat_map (copies f) es)
     (Contains-later (copy false f d) (copy mark f e) (flat_map (copies f) es) (copy-among mark f es e later))) (Contains-cases d e es c) where
       here : (m : Bool) → d ≡ e → Contains (flat_map (copies f) (d ∷ es)) (copy m f e)
-      here true is = subst (λ x. Contains (flat_map (copies f) (d ∷ es)) (copy true f x)) is (Contains-here (copy true f d) (copy false f d ∷ flat_map (copies f) es))
-      here false is = subst (λ x. Contains (flat_map (copies f) (d ∷ es)) (copy false f x)) is
+      here true is = rw (← is) (Contains-here (copy true f d) (copy false f d ∷ flat_map (copies f) es))
+      here false is = rw (← is)
           (Contains-later (copy true f d) (copy false f d) (copy false f d ∷ flat_map (copies f) es) (Contains-here (copy false f d) (flat_map (copies f) es)))
 
 pub copies-counted : (f : Property) (es : List Transition) → length (flat_map (copies f) es) ≡ 2 * length es

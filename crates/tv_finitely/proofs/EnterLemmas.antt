@@ -99,7 +99,7 @@ pub met-longer : (xs ds : List ℤ) (rows : List Linear) → All (λ r. columns 
 met-longer xs ds [] w h = All-nil (IsKnownMet (xs ++ ds))
 met-longer xs ds (r ∷ rows) w h =
     All-cons (IsKnownMet (xs ++ ds)) (given r) (as_given rows)
-    (subst (λ z. z ≤ℤ pos 0) (sym (value-longer xs ds r (All-head (λ r. columns r ≤ length xs) r rows w))) (All-head (IsKnownMet xs) (given r) (as_given rows) h))
+    (rw (value-longer xs ds r (All-head (λ r. columns r ≤ length xs) r rows w)) (All-head (IsKnownMet xs) (given r) (as_given rows) h))
     (met-longer xs ds rows (All-tail (λ r. columns r ≤ length xs) r rows w) (All-tail (IsKnownMet xs) (given r) (as_given rows) h))
 
 -- ---- what a case does to rows and ranks
@@ -109,7 +109,7 @@ met-after pt terms [] h = All-nil (IsKnownMet (map (term_value pt) terms))
 met-after pt terms (r ∷ rows) h =
     let change = λ (r : Linear). composed (given r) terms in
     All-cons (IsKnownMet (map (term_value pt) terms)) (given r) (as_given rows)
-    (subst (λ z. z ≤ℤ pos 0) (value-composed pt (given r) terms) (All-head (IsKnownMet pt) (change r) (map change rows) h))
+    (rw (← (value-composed pt (given r) terms)) (All-head (IsKnownMet pt) (change r) (map change rows) h))
     (met-after pt terms rows (All-tail (IsKnownMet pt) (change r) (map change rows) h))
 
 ranks-after : (pt : List ℤ) (terms : List Term) (ranks : List Linear) → map (known_value pt) (map (λ r. composed (given r) terms) ranks) ≡ map (known_value (map (term_value pt) terms)) (as_given ranks)
@@ -124,7 +124,7 @@ ranks-longer xs ds (r ∷ ranks) w = (λ i. value-longer xs ds r (All-head (λ r
 
 module _ (n : ℕ) (p : Marked) (c : LinearCase) (ds : List ℤ) (s t : State) (wide : length s.values ≡ n) (inside : InMarked p s) (does : CaseDoes c ds s t) (m : ℕ) (fits : PieceFits n m p) where
   narrow : (rows : List Linear) → All (λ r. columns r ≤ n) rows → All (λ r. columns r ≤ length s.values) rows
-  narrow rows w = subst (λ k. All (λ r. columns r ≤ k) rows) (sym wide) w
+  narrow rows w = rw wide w
 
   known_met : All (IsKnownMet (s.values ++ ds)) (as_given (rows_of p) ++ as_given c.guards)
   known_met =
@@ -136,7 +136,7 @@ module _ (n : ℕ) (p : Marked) (c : LinearCase) (ds : List ℤ) (s t : State) (
   point_long = let e = length-append s.values ds in let d = does.drawn in omega (arith, e, d, wide)
 
   gives : t.values ≡ map (term_value (s.values ++ ds)) (terms_after n c.updates)
-  gives = subst (λ k. t.values ≡ map (term_value (s.values ++ ds)) (terms_after k c.updates)) wide does.gives
+  gives = rw (← wide) does.gives
 
   -- where a step cover is met, the state after the step is in some piece
   pub step_entered : (into : List Marked) (fall : Marked → ℕ → Option (List Known)) → StepCovered n p c into fall → Entered (s.values ++ ds) into c.to (case_change n c) fall
@@ -145,7 +145,7 @@ module _ (n : ℕ) (p : Marked) (c : LinearCase) (ds : List ℤ) (s t : State) (
   pub inside_after : (into : List Marked) (fall : Marked → ℕ → Option (List Known)) (e : Entered (s.values ++ ds) into c.to (case_change n c) fall) → InMarked e.piece t
   inside_after into fall e = record {
     place = does.enters ∙ sym e.place;
-    rows = (met-as_given t.values (rows_of e.piece)).1 (subst (λ xs. All (IsKnownMet xs) (as_given (rows_of e.piece))) (sym gives) (met-after (s.values ++ ds) (terms_after n c.updates) (rows_of e.piece) e.rows));
+    rows = (met-as_given t.values (rows_of e.piece)).1 (rw gives (met-after (s.values ++ ds) (terms_after n c.updates) (rows_of e.piece) e.rows));
   }
 
   -- the ranks before and after, at the point with the draws

@@ -63,9 +63,9 @@ in-later n f e es p h =
 pub in-copies : (n : ℕ) (f : Property) (es : List Transition) (mark : Bool) (e : Transition) (c : LinearCase) → Contains es e → Contains (edge_cases n (copy mark f e)) c → Contains (marked_copies n f es) (c, mark)
 in-copies n f [] mark e c among inside = absurd (Contains-none e among)
 in-copies n f (d ∷ es) mark e c among inside =
-    subst (λ cs. Contains cs (c, mark)) (sym (next-edge n f d es))
+    rw (next-edge n f d es)
     (elim (Contains-cases d e es among) [
-      | inl is ↦ in-these n f d es mark c (subst (λ x. Contains (edge_cases n (copy mark f x)) c) (sym is) inside)
+      | inl is ↦ in-these n f d es mark c (rw is inside)
       | inr later ↦ in-later n f d es (c, mark) (in-copies n f es mark e c later inside)
     ])
 
@@ -80,7 +80,7 @@ of-this n f e es other mark c h =
     let m = Contains-from_map (λ (x : LinearCase). (x, other)) (edge_cases n (copy other f e)) (c, mark) h in
     let same : m.0 ≡ c = ap (λ (p : LinearCase × Bool). p.0) m.2 in
     let mine : other ≡ mark = ap (λ (p : LinearCase × Bool). p.1) m.2 in
-    record { edge = e; among = Contains-here e es; inside = subst (λ b. Contains (edge_cases n (copy b f e)) c) mine (subst (Contains (edge_cases n (copy other f e))) same m.1) }
+    record { edge = e; among = Contains-here e es; inside = rw (← mine) (subst (Contains (edge_cases n (copy other f e))) same m.1) }
 
 of-later : (n : ℕ) (f : Property) (e : Transition) (es : List Transition) (mark : Bool) (c : LinearCase) → OfCopy n f es mark c → OfCopy n f (e ∷ es) mark c
 of-later n f e es mark c o = record { edge = o.edge; among = Contains-later e o.edge es o.among; inside = o.inside }
@@ -88,7 +88,7 @@ of-later n f e es mark c o = record { edge = o.edge; among = Contains-later e o.
 pub from-copies : (n : ℕ) (f : Property) (es : List Transition) (mark : Bool) (c : LinearCase) → Contains (marked_copies n f es) (c, mark) → OfCopy n f es mark c
 from-copies n f [] mark c h = absurd (Contains-none (c, mark) h)
 from-copies n f (e ∷ es) mark c h =
-    elim (Contains-append_cases (own n f e true) (own n f e false ++ marked_copies n f es) (c, mark) (subst (λ cs. Contains cs (c, mark)) (next-edge n f e es) h)) [
+    elim (Contains-append_cases (own n f e true) (own n f e false ++ marked_copies n f es) (c, mark) (rw (← (next-edge n f e es)) h)) [
       | inl first ↦ of-this n f e es true mark c first
       | inr rest ↦ elim (Contains-append_cases (own n f e false) (marked_copies n f es) (c, mark) rest) [
         | inl second ↦ of-this n f e es false mark c second

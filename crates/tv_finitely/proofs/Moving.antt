@@ -52,7 +52,7 @@ module _ (old mid new : List ℤ) where
 
   lesser : (j k : ℕ) → FallsAt old mid j → FallsAt mid new k → (j < k) ⊎ (k ≤ j) → Falls old new
   lesser j k h g (inl l) = (j, kept_later j h g.as_many (λ i m. g.none_grows i (omega (arith, l, m))) (g.none_grows j l))
-  lesser j k h g (inr l) = (k, kept_before k g h.as_many (λ i m. h.none_grows i (omega (arith, l, m))) (elim (le_or_lt j k) [ inl e ↦ (let same : k ≡ j = omega (arith, e, l) in subst (λ z. get_or mid z (pos 0) ≤ℤ get_or old z (pos 0)) (sym same) (fallen (get_or mid j (pos 0)) (get_or old j (pos 0)) h.falls)) | inr e ↦ h.none_grows k e ]))
+  lesser j k h g (inr l) = (k, kept_before k g h.as_many (λ i m. h.none_grows i (omega (arith, l, m))) (elim (le_or_lt j k) [ inl e ↦ (let same : k ≡ j = omega (arith, e, l) in rw same (fallen (get_or mid j (pos 0)) (get_or old j (pos 0)) h.falls)) | inr e ↦ h.none_grows k e ]))
 
   turned : (j k : ℕ) → (k ≤ j) ⊎ (j < k) → (j < k) ⊎ (k ≤ j)
   turned j k (inl l) = inr l

@@ -13,15 +13,15 @@ use Rattle.tv_cert.specs.Obligations.{Obligation, Owed, a_cover, OwedMet, Entry,
 
 pub Contains-flat_map : {A B : Type 0} (f : A → List B) (xs : List A) (x : A) (y : B) → Contains xs x → Contains (f x) y → Contains (flat_map f xs) y
 Contains-flat_map f [] x y c d = absurd (omega arith)
-Contains-flat_map f (a ∷ xs) x y (zero, l, e) d = Contains-append_left (f a) (flat_map f xs) y (subst (λ z. Contains (f z) y) (sym e) d)
+Contains-flat_map f (a ∷ xs) x y (zero, l, e) d = Contains-append_left (f a) (flat_map f xs) y (rw e d)
 Contains-flat_map f (a ∷ xs) x y (suc k, l, e) d = Contains-append_right (f a) (flat_map f xs) y (Contains-flat_map f xs x y (k, omega arith, e) d)
 
 -- something meets each obligation of the list
 pub paired_some : (os : List Obligation) (proofs : List Proof) (o : Obligation) → AllMet (paired os proofs) → Contains os o → (p : Option Proof) × OwedMet o.owed p
 paired_some [] proofs o h c = absurd (omega arith)
-paired_some (x ∷ os) [] o h (zero, l, e) = (None, subst (λ z. OwedMet z.owed None) e h.0)
+paired_some (x ∷ os) [] o h (zero, l, e) = (None, rw (← e) h.0)
 paired_some (x ∷ os) [] o h (suc k, l, e) = paired_some os [] o h.1 (k, omega arith, e)
-paired_some (x ∷ os) (q ∷ proofs) o h (zero, l, e) = (Some q, subst (λ z. OwedMet z.owed (Some q)) e h.0)
+paired_some (x ∷ os) (q ∷ proofs) o h (zero, l, e) = (Some q, rw (← e) h.0)
 paired_some (x ∷ os) (q ∷ proofs) o h (suc k, l, e) = paired_some os proofs o h.1 (k, omega arith, e)
 
 pub cover_shown : (n : ℕ) (known : List Known) (owed : ℕ → ℕ → Option (List Known)) (proof : Option Proof) → OwedMet (a_cover n known owed) proof → (tree : CoverTree) × IsMetCover n owed known tree

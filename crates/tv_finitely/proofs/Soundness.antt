@@ -52,7 +52,7 @@ module _ (s : SplitSystem) (m : ℕ) (ps : List Marked) (each : All (PieceShape 
   finite_from : {ranks : List ℤ} → Ends Falls ranks → (a : State) (here : Placed n ps a) → ranks ≡ ranks_there here.piece a → Finite (Steps p) (Holds (Steps p) f) a
   finite_from {ranks} (all_end g) a here e = all_visits (λ t ts run h.
       let w = arrives a t ts here run h in
-      finite_from (g (ranks_there w.at.piece (last_of t ts)) (subst (λ old. Falls old (ranks_there w.at.piece (last_of t ts))) (sym e) w.falls)) (last_of t ts) w.at refl)
+      finite_from (g (ranks_there w.at.piece (last_of t ts)) (rw e w.falls)) (last_of t ts) w.at refl)
 
   pub finite : (a : State) → Placed n ps a → Finite (Steps p) (Holds (Steps p) f) a
   finite a here = finite_from (falls_end (ranks_there here.piece a)) a here refl

@@ -17,9 +17,9 @@ use Rattle.tv_nested.proofs.Wholes.{few_unknowns}
 pub read_answers : (q : Question) (d : ℕ) (values : List ℤ) (scale : ℤ) → 0 < d → IsSolutionOf (system_asked q d) values scale → GivesSolution (system_asked q d) values scale → IsNarrowSystem (system_asked q d) → (system_asked q d).rows * (system_asked q d).columns ≤ 4000000 → (family : Family) → IsReadFrom q d values scale family → IsNestingOf q d (Terms family)
 read_answers q d values scale some s last narrow small family h = record {
   found =
-      subst (λ z. IsNestedFamily q.variables q.locations (many_of q) d (ways_of q) z family.scale (lines_of_cases family.lines.items)) (sym h.terms_are)
-      (subst (λ z. IsNestedFamily q.variables q.locations (many_of q) d (ways_of q) (tuple_read (ways_of q) (many_of q) d q.variables values q.locations d) family.scale z) (sym h.lines_are)
-      (subst (λ z. IsNestedFamily q.variables q.locations (many_of q) d (ways_of q) (tuple_read (ways_of q) (many_of q) d q.variables values q.locations d) z (lines_read (ways_of q) d values (length (terms_below (ways_of q) (many_of q) d q.variables q.locations)) (many_of q))) (sym h.scale_is)
+      rw h.terms_are
+      (rw h.lines_are
+      (rw h.scale_is
       (solution_is_family q.variables q.locations (many_of q) d (ways_of q) values scale s narrow (λ k l. (asked_between q k l).leaves) (λ k l. (asked_between q k l).enters) q.bounded (few_unknowns (ways_of q) (many_of q) d q.variables q.locations (let f = q.falls in omega (arith, f)) small) some)));
   last = record {
     values = values;

@@ -118,7 +118,7 @@ module _ (v locations many d : ℕ) (ways : ℕ → Way) (y : List ℤ) where
     NotUnder u = pos 0 ≤ℤ column_sum v d many ways numbers u
 
     each_unknown : AllByRecursion NotUnder the_unknowns
-    each_unknown = all_by_place NotUnder the_unknowns some_unknown (λ j l. subst (λ z. pos 0 ≤ℤ z) (column_is j l) (b.not_under j l))
+    each_unknown = all_by_place NotUnder the_unknowns some_unknown (λ j l. rw (← (column_is j l)) (b.not_under j l))
 
     of_all_terms : AllByRecursion NotUnder (terms_below ways many d v locations)
     of_all_terms = all_first NotUnder (terms_below ways many d v locations) (steps_below ways d many) each_unknown

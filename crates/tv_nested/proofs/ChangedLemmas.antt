@@ -141,7 +141,7 @@ falls_step v c signs rows above fall tree wide us made few h known old new many 
 
     by_falls : (o : Option (List Known)) → owed_fall v w old new fall.number ≡ o → ShownAt (v + c.draws) (way_rows w) o (lists fall.lines.items) → IsMetCover (v + c.draws) (owed_signs v w signs old new) (way_rows w) tree
     by_falls None e s = absurd s
-    by_falls (Some falls) e s = subst (λ ks. IsMetCover (v + c.draws) (owed_signs v w signs old new) ks tree) (append-nil (way_rows w))
+    by_falls (Some falls) e s = rw (← (append-nil (way_rows w)))
         (h.leads (v + c.draws) (way_rows w) falls (changed v w) signs (owed_signs v w signs old new)
         (known_length known c.guards ∙ (let q : length known + length c.guards ≡ above + length c.guards = omega (arith, many) in q))
         (subst (AllHeld (v + c.draws)) (as_given-append known c.guards) (given_held (v + c.draws) (known ++ c.guards)))
@@ -150,7 +150,7 @@ falls_step v c signs rows above fall tree wide us made few h known old new many 
 
 pub untaken_step : (v : ℕ) (c : LinearCase) (signs : List Linear) (above : ℕ) (ms new_ms : Vec ℤ Global) → new_ms.items ≡ ms.items → ShowsSignStep v c signs above (Untaken ms) (Empty new_ms)
 untaken_step v c signs above ms new_ms e known old new many shown = record {
-  met = subst (λ z. Refutes (v + c.draws) (way_rows (way_with c known)) z) (sym e) shown.refutes;
+  met = rw e shown.refutes;
   shallow = omega arith;
   even = tt;
   narrow = subst (All (IsWithin 62)) (sym e) shown.narrow;
@@ -158,9 +158,9 @@ untaken_step v c signs above ms new_ms e known old new many shown = record {
 
 pub start_met : (v : ℕ) (signs : List Linear) (fall : Fall) (tree : CoverTree) → All (λ r. columns r ≡ v) signs → length signs ≤ 4 → fall.number ≡ 0 → fall.lines.items ≡ [] → IsSplitTree signs 0 fall tree → IsSignStart v signs tree
 start_met v signs fall tree wide few none empty h = record {
-  met = h.leads v [] [] (λ r. given r) signs (changed_lists (λ r. given r) (sign_pieces signs)) refl tt (unchanged v signs) (subst (λ z. Shown v [] [] (lists z)) (sym empty) tt)
+  met = h.leads v [] [] (λ r. given r) signs (changed_lists (λ r. given r) (sign_pieces signs)) refl tt (unchanged v signs) (rw empty tt)
       (λ q l. ap (changed_lists (λ r. given r) (sign_pieces signs) q) none ∙ ap (option_map (map (λ r. given r))) (piece_there signs (suc (length signs)) q (omega (arith, l))) ∙ ap Some (sym (append-nil (map (λ r. given r) (sign_rows signs q)))));
   shallow = (let d = h.deep in omega (arith, d, few));
   even = h.even v wide;
-  narrow = h.narrow (subst (λ z. AreNarrowLines (lists z)) (sym empty) (All-nil (All (IsWithin 62))));
+  narrow = h.narrow (rw empty (All-nil (All (IsWithin 62))));
 }

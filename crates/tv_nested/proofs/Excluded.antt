@@ -17,7 +17,7 @@ use Rattle.tv_rank.proofs.Excluded.{IsPoint, change_at, ray, before-ray, after-r
 low_on_rays : (v : ℕ) (w : Way) (g : (Option ℕ → ℤ) → ℤ) → ((x p : Option ℕ → ℤ) (n : ℤ) → g (λ c. n *ℤ x c +ℤ p c) ≡ n *ℤ g x +ℤ g p) → ((p : Option ℕ → ℤ) → IsPoint v w p → g p ≤ℤ pos 0) → (x p : Option ℕ → ℤ) → Meets v w x → pos 0 ≤ℤ x None → IsPoint v w p → g x ≤ℤ pos 0
 low_on_rays v w g linear low x p h l q = elim (zero_or_above (x None) l) [
   | inr above ↦ low x (record { meets = h; positive = above })
-  | inl e ↦ ray (g x) (g p) (λ n k. subst (λ z. z ≤ℤ pos 0) (linear x p n) (low (λ c. n *ℤ x c +ℤ p c) (beyond v w x p h e q n k)))
+  | inl e ↦ ray (g x) (g p) (λ n k. rw (← (linear x p n)) (low (λ c. n *ℤ x c +ℤ p c) (beyond v w x p h e q n k)))
 ]
 
 -- ---- tuples at points

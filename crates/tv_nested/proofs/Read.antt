@@ -36,7 +36,7 @@ module _ (ways : ℕ → Way) (many d v : ℕ) (xs : List ℤ) where
     local-read : (n l : ℕ) → l < n → local_term v (terms_read ways many d v xs j n) l ≡ read_at ways many d v xs j l
     local-read zero l h = absurd (omega (arith, h))
     local-read (suc n) l h = elim (same_or_below n l h) [
-      | inl e ↦ nowhere_left v l (terms_read ways many d v xs j n) (term_there ways many d v xs j n) (none_past n l (omega (arith, e))) ∙ subst (λ z. local_term v (term_there ways many d v xs j z) l ≡ read_at ways many d v xs j l) e (by_test (touches ways many l))
+      | inl e ↦ nowhere_left v l (terms_read ways many d v xs j n) (term_there ways many d v xs j n) (none_past n l (omega (arith, e))) ∙ rw (← e) (by_test (touches ways many l))
       | inr b ↦ nowhere_right v l (terms_read ways many d v xs j n) (term_there ways many d v xs j n) (elsewhere n l (λ e. omega (arith, b, e))) ∙ local-read n l b
     ]
       where

@@ -85,7 +85,7 @@ module _ (rows : List Linear) (narrow : All IsNarrow rows) (before : ℕ) (fall 
       let both = shown_append n ks (map change (sign_rows signs target)) falls (own_lines (length known + length sides) (length known) (length sides)) (map (spread (length sides)) (lists fall.lines.items)) entered falling in
       let numbers : own_lines (before + above) before above ++ map (spread above) (lists fall.lines.items) ≡ own_lines (length known + length sides) (length known) (length sides) ++ map (spread (length sides)) (lists fall.lines.items) = (λ i. own_lines (sym many i + e i) (sym many i) (e i) ++ map (spread (e i)) (lists fall.lines.items)) in
       let owed : wanted t j ≡ Some (map change (sign_rows signs target) ++ falls) = (λ i. wanted (h.0 i) (h.1 i)) ∙ w target (let l = changed_length n change signs rows changes in omega (arith, l, inside)) in
-      subst (λ o. ShownAt n ks o (lists ls.items)) (sym owed) (subst (Shown n ks (map change (sign_rows signs target) ++ falls)) (sym (h.2 ∙ numbers)) both)
+      rw owed (subst (Shown n ks (map change (sign_rows signs target) ++ falls)) (sym (h.2 ∙ numbers)) both)
 
 pub own_line_narrow : (count place : ℕ) → All (IsWithin 62) (own_line count place)
 own_line_narrow count place = before_last place (pos 1 ∷ (zeros (count - place - 1) ++ pos 1 ∷ [])) (All-cons (IsWithin 62) (pos 1) (zeros (count - place - 1) ++ pos 1 ∷ []) one (before_last (count - place - 1) (pos 1 ∷ []) (All-cons (IsWithin 62) (pos 1) [] one (All-nil (IsWithin 62)))))
@@ -122,7 +122,7 @@ entry_even (Into t j ls) target before above fall n h = tt
 -- beyond all splits
 pub beyond_all : (rows : List Linear) (before : ℕ) (fall : Fall) (tree : CoverTree) → All IsNarrow rows → length rows ≤ 4 → fall.number < 2 ^ 32 → IsEntry (length rows) before (length rows) fall tree → IsSplitFrom rows (length rows) before fall tree
 beyond_all rows before fall tree narrow few slim h = record {
-  leads = λ n known falls change signs wanted many held changes shown w. subst (λ ks. IsMetCover n wanted (known ++ ks) tree) (all_passed rows) (entry_met rows narrow before fall (length rows) (omega arith) tree (length rows) (sym (all_length rows)) h n known falls change signs wanted many held changes shown w);
+  leads = λ n known falls change signs wanted many held changes shown w. rw (← (all_passed rows)) (entry_met rows narrow before fall (length rows) (omega arith) tree (length rows) (sym (all_length rows)) h n known falls change signs wanted many held changes shown w);
   deep = (let e = entry_splits tree (length rows) before (length rows) fall h in omega (arith, e));
   even = λ n e. entry_even tree (length rows) before (length rows) fall n h;
   narrow = λ g. entry_narrow tree (length rows) before (length rows) fall (omega (arith, few)) slim h g;
@@ -131,7 +131,7 @@ beyond_all rows before fall tree narrow few slim h = record {
 -- a property of a tree that is a split at a row
 split_is : (P : CoverTree → Type 0) (r : Linear) (a b new : CoverTree) → IsSplitOf r a b new → ((p q : _) → P (Split' r p a q b)) → P new
 split_is P r a b (Split' s p x q y) h k =
-    subst (λ z. P (Split' z p x q y)) (sym h.0) (subst (λ z. P (Split' r p z q y)) (sym h.1) (subst (λ z. P (Split' r p a q z)) (sym h.2) (k p q)))
+    rw h.0 (rw h.1 (rw h.2 (k p q)))
 split_is P r a b (Empty ms) h k = absurd h
 split_is P r a b (Into t f ls) h k = absurd h
 
@@ -140,9 +140,9 @@ pub split_before : (rows : List Linear) (p before : ℕ) (fall : Fall) (r : Line
 split_before rows p before fall r into rest new narrow few slim inside is h g s = record {
   leads = λ n known falls change signs wanted many held changes shown w.
       split_is (IsMetCover n wanted (known ++ passed_rows rows p)) r into rest new s (λ a b. (
-        subst (λ ks. IsMetCover n wanted ks into) (ap (λ ks. known ++ ks) (then_met rows p r inside is) ∙ sym (append_assoc known (passed_rows rows p) (given r ∷ [])))
+        rw (← (ap (λ ks. known ++ ks) (then_met rows p r inside is) ∙ sym (append_assoc known (passed_rows rows p) (given r ∷ []))))
             (entry_met rows narrow before fall p (omega (arith, inside)) into (p + 1) (sym (split_length rows p inside)) h n known falls change signs wanted many held changes shown w),
-        subst (λ ks. IsMetCover n wanted ks rest) (ap (λ ks. known ++ ks) (ap (passed_rows rows) (let e : p + 1 ≡ suc p = omega arith in e) ∙ then_passed rows p r inside is) ∙ sym (append_assoc known (passed_rows rows p) (denied (given r) ∷ [])))
+        rw (← (ap (λ ks. known ++ ks) (ap (passed_rows rows) (let e : p + 1 ≡ suc p = omega arith in e) ∙ then_passed rows p r inside is) ∙ sym (append_assoc known (passed_rows rows p) (denied (given r) ∷ []))))
             (g.leads n known falls change signs wanted many held changes shown w),
       ));
   deep = split_is (λ t. splits t + p ≤ length rows) r into rest new s (λ a b. (let e = entry_splits into p before (p + 1) fall h in let d = g.deep in omega (arith, e, d)));

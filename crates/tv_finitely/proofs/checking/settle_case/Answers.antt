@@ -15,7 +15,7 @@ pub returns-then-met-proofs : goal.returns-then-met-proofs
 returns-then-met-proofs c =
     let s = split_of c.args.about.now in
     let t = c.if-met-proofs.true in
-    subst (λ g. IsSettledFrom (case_owes s.system c.args.pieces.now c.args.piece.now (marked_at s c.args.number)) c.args.proofs.now c.args.met (Err g)) (sym c.step_failing-failing.ensures)
+    rw c.step_failing-failing.ensures
     (settled_missing s c.args.pieces.now c.args.piece.now c.args.number c.args.proofs.now c.args.met (c.starts_at.ensures.0 c.if-not-starts_at.false) (omega (arith, t)))
 
 pub returns-then-step_is_met : goal.returns-then-step_is_met
@@ -29,7 +29,7 @@ pub returns-else-step_is_met : goal.returns-else-step_is_met
 returns-else-step_is_met c =
     let s = split_of c.args.about.now in
     let l = c.if-met-proofs.false in
-    subst (λ g. IsSettledFrom (case_owes s.system c.args.pieces.now c.args.piece.now (marked_at s c.args.number)) c.args.proofs.now c.args.met (Err g)) (sym c.step_failing-failing.ensures)
+    rw c.step_failing-failing.ensures
     (settled_unmet s c.args.pieces.now c.args.piece.now c.args.number c.args.proofs.now c.args.met c.index-proofs-met.result
     (slice_get_read c.args.proofs.now (length c.args.proofs.now) c.args.met c.index-proofs-met.result refl (omega (arith, l)) c.index-proofs-met.is)
     (c.starts_at.ensures.0 c.if-not-starts_at.false) (λ m. let h = c.step_is_met.ensures.1 m in let f = c.if-step_is_met.false in cc))

@@ -20,7 +20,7 @@ loop-edge-preserved c =
     let p = system_of c.args.program.now in
     let n = length p.variables in
     let edges = c.edges-edges.result.now in
-    let few : length (all_cases n (transitions edges)) ≤ 8192 = subst (λ es. length (all_cases n es) ≤ 8192) (sym c.edges-edges.ensures.same) (few_cases p (cases_of c.args.cases.now).cases c.edges-edges.ensures.limits c.requires) in
+    let few : length (all_cases n (transitions edges)) ≤ 8192 = rw c.edges-edges.ensures.same (few_cases p (cases_of c.args.cases.now).cases c.edges-edges.ensures.limits c.requires) in
     let counted = ap (λ a. a.lists) c.amount_of_commands.ensures.is ∙ ap (λ cs. (amount_after (amount 1 0) (map instruction cs)).lists) c.deref.ensures.value in
     next-turn n edges c.loop-edge.edge-index c.edge-item.result c.loop-edge-test.true c.edge-item.is few c.loop-edge.enters c.loop-edge.marks.items c.add_marks.new.marks.items
     (edge_marks n (transitions edges)) c.amount_of_commands.result.lists c.loop-edge.invariant c.in_ok-add_marks.ensures counted

@@ -21,7 +21,7 @@ returns-then-not-is_shown c =
     let many = c.loop-i.invariant.many in
     let inside = c.loop-i-test.true in
     let below : c.loop-i.i < length (rows_listed c.args.owed.now) = omega (arith, many, inside) in
-    let stops = Left_stops c.args.columns known rows lists i c.loop-i.invariant below c.index-lists-i.result at c.is_shown.result (subst (λ zs. ShowsRow c.args.columns known rows i zs c.is_shown.result) c.deref.ensures.value c.is_shown.ensures) in
+    let stops = Left_stops c.args.columns known rows lists i c.loop-i.invariant below c.index-lists-i.result at c.is_shown.result (rw (← c.deref.ensures.value) c.is_shown.ensures) in
     (λ t. cc, λ h. let s = stops h in let f = c.if-not-is_shown.true in cc)
 
 pub loop-i-preserved : goal.loop-i-preserved
@@ -34,6 +34,6 @@ loop-i-preserved c =
     let many = c.loop-i.invariant.many in
     let inside = c.loop-i-test.true in
     let below : c.loop-i.i < length (rows_listed c.args.owed.now) = omega (arith, many, inside) in
-    let next = Left_next c.args.columns known rows lists i c.loop-i.invariant below c.index-lists-i.result at c.is_shown.result (subst (λ zs. ShowsRow c.args.columns known rows i zs c.is_shown.result) c.deref.ensures.value c.is_shown.ensures) c.if-not-is_shown.false in
+    let next = Left_next c.args.columns known rows lists i c.loop-i.invariant below c.index-lists-i.result at c.is_shown.result (rw (← c.deref.ensures.value) c.is_shown.ensures) c.if-not-is_shown.false in
     let e : suc i ≡ i + 1 = omega arith in
     subst (Left c.args.columns known rows lists) e next

@@ -18,4 +18,4 @@ returns-in-Covered c =
     let b = c.len.ensures ∙ c.case-case.result.now.guards.rows.ok.0 in
     let many : c.len-known.result + c.len.result ≡ length (as_given p ++ as_given taken.guards) = omega (arith, a, b, length-map p given, length-map taken.guards given, length-append (as_given p) (as_given taken.guards)) in
     cover_shaped (split_of c.args.about.now) c.args.pieces.now c.args.piece.now c.args.number c.cover_has_shape.result c.variables-columns.result taken c.tree.result.now c.args.proof.now c.entrance_over-entrance.result wide c.case-case.ensures.is
-    (c.in-Covered.is ∙ ap Covered (sym c.tree.ensures.same)) c.entrance_over-entrance.ensures _ _ many refl (subst (λ t. splits t ≤ 128) (sym c.tree.ensures.same) c.tree.ensures.shallow) c.cover_has_shape.ensures
+    (c.in-Covered.is ∙ ap Covered (sym c.tree.ensures.same)) c.entrance_over-entrance.ensures _ _ many refl (rw c.tree.ensures.same c.tree.ensures.shallow) c.cover_has_shape.ensures

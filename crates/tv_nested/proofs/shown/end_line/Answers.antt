@@ -12,4 +12,4 @@ returns c =
     let line = c.identity_line-line.ensures ∙ ap (family_line c.args.family.now c.args.place) many in
     let front = c.split_at.ensures.front ∙ ap (λ k. take k c.identity_line-line.result.now) c.saturating_sub.ensures ∙ ap (λ z. take (length z - 1) z) line in
     let e : under_line c.len-terms.result c.len-terms.result c.split_at.result.0.now ≡ end_line c.args.family.now c.args.place = (λ i. under_line (many i) (many i) (front i)) in
-    subst (λ z. IfOk c.under_line.result (λ v. v.items ≡ z)) e c.under_line.ensures
+    rw (← e) c.under_line.ensures

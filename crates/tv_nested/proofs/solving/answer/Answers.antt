@@ -19,4 +19,4 @@ pub nesting_of-requires-clause-narrow : goal.nesting_of-requires-clause-narrow
 nesting_of-requires-clause-narrow c = subst IsNarrowSystem c.in-Ok.ensures.system.same c.in-Ok-solve.ensures.narrow
 
 pub returns-in-Ok-nesting_of-clause-first_wide : goal.returns-in-Ok-nesting_of-clause-first_wide
-returns-in-Ok-nesting_of-clause-first_wide c = λ row column h _. c.in-Ok-solve.ensures.first_wide row column (subst (λ s. IsFirstWide s row column) (sym c.in-Ok.ensures.system.same) h)
+returns-in-Ok-nesting_of-clause-first_wide c = λ row column h _. c.in-Ok-solve.ensures.first_wide row column (rw c.in-Ok.ensures.system.same h)

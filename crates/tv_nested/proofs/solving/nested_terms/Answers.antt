@@ -7,6 +7,6 @@ use Rattle.tv_nested.proofs.solving.nested_terms.Goals as goal
 
 pub answer-requires-clause-points : goal.answer-requires-clause-points
 answer-requires-clause-points c = λ k l.
-    subst (λ z. HasPoint z (way_at (case_views c.list.result.now) c.deref.result.now c.args.set.now k)) (sym c.variables.ensures.same)
-    (subst (λ z. HasPoint (cases_of c.args.about.now).variables (way_at z c.deref.result.now c.args.set.now k)) (sym c.list.ensures.same)
-    (subst (λ z. HasPoint (cases_of c.args.about.now).variables (way_at (cases_of c.args.about.now).cases z c.args.set.now k)) (sym c.deref.ensures.value) (c.requires.points k l)))
+    rw c.variables.ensures.same
+    (rw c.list.ensures.same
+    (rw c.deref.ensures.value (c.requires.points k l)))

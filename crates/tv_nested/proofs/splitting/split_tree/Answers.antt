@@ -10,4 +10,4 @@ split_at-requires-clause-rest c =
 pub rows-preserved : goal.rows-preserved
 rows-preserved c = λ p e.
     let t = c.rows-test.true in
-    subst (λ k. IsSplitFrom c.args.rows.now k c.args.before c.args.fall.now c.in_ok-tree-2.tree) (let q : length c.args.rows.now - 1 - c.rows.turn ≡ p = omega (arith, t, e) in q) c.in_ok-tree-2.ensures
+    rw (← (let q : length c.args.rows.now - 1 - c.rows.turn ≡ p = omega (arith, t, e) in q)) c.in_ok-tree-2.ensures

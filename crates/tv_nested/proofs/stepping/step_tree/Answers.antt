@@ -7,5 +7,5 @@ use Rattle.tv_nested.proofs.stepping.step_tree.Goals as goal
 
 pub returns-in_ok-refuted-in-Untaken-clause-shows : goal.returns-in_ok-refuted-in-Untaken-clause-shows
 returns-in_ok-refuted-in-Untaken-clause-shows c =
-    subst (λ x. ShowsSignStep c.args.variables (case_view c.args.case.now) c.args.signs.now c.args.before x (Empty c.in_ok-refuted-in-Untaken.refuted)) (sym c.in-Untaken.is)
+    rw c.in-Untaken.is
     (untaken_step c.args.variables (case_view c.args.case.now) c.args.signs.now c.args.before c.in-Untaken.multipliers c.in_ok-refuted-in-Untaken.refuted (c.in_ok-refuted-in-Untaken.ensures.items ∙ c.deref.ensures.value))
