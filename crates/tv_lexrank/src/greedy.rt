@@ -45,7 +45,7 @@ fn append(numbers: &mut Vec<u32>, more: &[u32]) -> Result<(), AllocError>
 
 /// The list without the item at a place.
 #[tactic(auto, using(crate::proofs::Removing::taken_apart))]
-fn without(alloc: Global, set: &[u32], place: usize) -> Result<Vec<u32>, AllocError>
+pub fn without(alloc: Global, set: &[u32], place: usize) -> Result<Vec<u32>, AllocError>
     requires { place < length set.now }
     ensures { IfOk result (λ v. v.items ≡ spec_without set.now place) }
 {
@@ -100,7 +100,7 @@ fn refusal(
 }
 
 /// One round over the set: the first case that a family of terms falls over is taken out.
-fn take_turn(
+pub fn take_turn(
     alloc: Global,
     component: &Component,
     set: &[u32],

@@ -32,9 +32,9 @@ pub use certificate::{known_certificate, proved_certificate, ranked_certificate,
 pub use closed::{closing, whole_cover};
 pub use component::Component;
 pub use covering::{Fallen, fall_of, place_in, zero_line};
-pub use falling::{Fall, append_spread, put_in};
+pub use falling::{Fall, append_spread, put_in, with_fall};
 pub use fault::RankFault;
-pub use greedy::{Greedy, rounds_of};
+pub use greedy::{Greedy, Turn, rounds_of, take_turn, without};
 pub use inside::stands_inside;
 pub use known::{are_known, known_at, rowed_at};
 pub use laws::{stuck_sets_are_unranked, systems_do_not_lack_memory};
