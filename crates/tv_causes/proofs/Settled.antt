@@ -1,22 +1,15 @@
 -- what the causes show
-use Rattle.std.proofs.Common.{◌≡◌, inl, ℕ, zero, List, ◌∙◌, sym, ap, subst, ℤ}
+use Rattle.std.proofs.Common.{◌≡◌, ℕ, zero, List, ◌∙◌, sym, ap, subst, ℤ}
 use Rattle.std.specs.Prelude.{Some}
-use Rattle.tv_linear.specs.Linear.{Linear}
-use Rattle.tv_linear.specs.declared.region.Piece.{Piece}
 use Rattle.tv_formula.specs.Properties.{Property, at, negated, fix}
 use Rattle.tv_formula.specs.Forms.{never_at}
-use Rattle.tv_farkas.specs.declared.branch.Branch.{Branch}
-use Rattle.tv_farkas.specs.declared.fault.CoverFault.{CoverFault}
-use Rattle.tv_farkas.specs.declared.fault.CoverFault.TheVariants.{Splits, Solve, Wide, Memory}
 use Rattle.tv_cases.specs.LinearCases.{CaseSystem}
 use Rattle.tv_candidates.specs.declared.candidate.Candidate.{Candidate}
 use Rattle.tv_candidates.specs.Offered.{offered}
 use Rattle.tv_candidates.proofs.Parts.{larger}
-use Rattle.tv_derived.specs.Scopes.{Placed}
-use Rattle.tv_derived.specs.Faults.{IsRefusalOf}
-use Rattle.tv_causes.specs.Bases.{Allows, IsSufficient}
-use Rattle.tv_causes.specs.Causes.{Told, IsLeftPoint, IsSplitsCause}
-use Rattle.tv_causes.specs.Laws.{IsCauseOf, SafetyIsSettled}
+use Rattle.tv_causes.specs.Invariants.{IsSufficient}
+use Rattle.tv_causes.specs.Causes.{IsLeftPoint}
+use Rattle.tv_causes.specs.Laws.{SafetyIsSettled}
 
 -- the location of a location test
 abbrev pub tested : Property → ℕ
@@ -48,10 +41,3 @@ settled about f rests l sufficient = record {
       none_left about rests l sufficient cause.point
       (subst (λ k. IsLeftPoint about (Some rests) k cause.point) (one_location cause.l l (sym cause.safety ∙ is)) cause.left);
 }
-
--- a refusal, whatever is told of the path of splits
-pub refusal_cause : (about : CaseSystem) (f : Property) (told : Told) (base : List Placed) (h pivots splits : ℕ) (cover_rule : ℕ → List (List Linear) → List Linear → List Branch → Type 0) (choice_rule : ℕ → List Piece → List Linear → List Branch → Type 0) (on_run : ℕ → Type 0) (spent : List Branch → Type 0) (fault : CoverFault) → Allows about f told base h → ((path : List Branch) → spent path → IsSplitsCause about f told splits cover_rule choice_rule path) → IsRefusalOf about base h pivots spent fault → IsCauseOf about f told pivots splits cover_rule choice_rule on_run fault
-refusal_cause about f told base h pivots splits cover_rule choice_rule on_run spent (Splits path) allows cause is = cause path.items is
-refusal_cause about f told base h pivots splits cover_rule choice_rule on_run spent (Solve kept fault) allows cause is = record { base = base; h = h; allows = allows; scope = is.0; unsolved = is.1 }
-refusal_cause about f told base h pivots splits cover_rule choice_rule on_run spent (Wide column) allows cause is = inl (record { base = base; h = h; allows = allows; wide = is })
-refusal_cause about f told base h pivots splits cover_rule choice_rule on_run spent Memory allows cause is = tt

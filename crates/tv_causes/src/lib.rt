@@ -1,7 +1,7 @@
-//! When an answer is unknown, cause by cause.
+//! When it is unknown whether a run comes to a location, cause by cause, and which column of a comparison is too wide.
 //!
 //! The definitions stand in `specs/`. Those of comparisons that are too wide come with the call that finds the column; the other functions
-//! carry the laws of the causes, and do nothing.
+//! carry the laws of the causes, and do nothing. The causes of other unknown answers are stated by the call that reports them.
 #![tactic(auto)]
 
 mod join;
@@ -10,8 +10,5 @@ mod wide;
 mod wide_comparison;
 mod wide_part;
 
-pub use laws::{
-    Made, Rules, decided_and_tame, no_draws_and_no_cycles, refusals_are_causes, size_is_enough,
-    sufficient_invariants, weak_invariants,
-};
+pub use laws::{sufficient_invariants, weak_invariants};
 pub use wide::wide_column;

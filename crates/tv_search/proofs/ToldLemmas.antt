@@ -9,7 +9,7 @@ use Rattle.tv_candidates.specs.Inductive.{IsLargestInductive}
 use Rattle.tv_candidates.specs.Offered.{offered}
 use Rattle.tv_invariant.specs.Asking.{IsTold, Gave}
 use Rattle.tv_farkas.specs.declared.budget.Budget.{Budget}
-use Rattle.tv_causes.specs.Bases as bases
+use Rattle.tv_causes.specs.Invariants as invariants
 use Rattle.tv_causes.specs.CasePaths.{IsOpenPath}
 use Rattle.tv_causes.specs.Causes as causes
 use Rattle.tv_search.specs.declared.search_fault.SearchFault.{SearchFault}
@@ -40,7 +40,7 @@ shut_out rest ps about l point s left = s.shut point left.left.counted (λ c ins
 -- ---- faults as causes
 
 module _ {A : Type 0} (rest : A → Option (List Candidate)) (ps : List A) (about : CaseSystem) (l : ℕ) where
-  greatest_told : (told : causes.Told) (lists : List (List Candidate)) (part : List Candidate) → AreTold rest ps told → Gave rest ps lists → IsLargestInductive about (offered about lists) part → bases.IsLargestTold about told part
+  greatest_told : (told : causes.Told) (lists : List (List Candidate)) (part : List Candidate) → AreTold rest ps told → Gave rest ps lists → IsLargestInductive about (offered about lists) part → invariants.IsLargestTold about told part
   greatest_told None lists part t g h = tt
   greatest_told (Some rests) lists part t g h = subst (λ xs. IsLargestInductive about (offered about xs) part) (told_all rest ps lists rests g t) h
 
