@@ -1,4 +1,4 @@
-use Rattle.std.proofs.Common.{◌≡◌, ℕ, ◌<◌, ◌≤◌, Bool, true, false, List, [], length, arith, sym, subst, Ok}
+use Rattle.std.proofs.Common.{◌≡◌, inl, inr, ℕ, ◌<◌, ◌≤◌, Bool, true, false, List, [], length, arith, sym, subst, Ok}
 use Rattle.std.specs.Prelude.{◌↔◌}
 use Rattle.tv_text.specs.Stream.{Seen, Gave, GaveSome, count_passed}
 use Rattle.tv_text.proofs.StreamLemmas.{counted, gave_nothing}
@@ -12,12 +12,13 @@ use Rattle.tv_formula.specs.Properties.{Property as Formula}
 use Rattle.tv_formula_reader.specs.declared.fault.FormulaFault.{FormulaFault}
 use Rattle.tv_formula_reader.specs.declared.fault.FormulaFault.TheVariants as faults
 use Rattle.tv_top.specs.declared.answer.Answer.{Answer}
-use Rattle.tv_top.specs.declared.answer.Answer.TheVariants.{Proved, Disproved, Obligation, CertificateLine, Words, TooLong, Text, Property, WideEdge, TooManyInEdge, Unknown, ReadFault, Memory}
+use Rattle.tv_top.specs.declared.answer.Answer.TheVariants.{Proved, Disproved, Obligation, CertificateLine, Words, TooLong, Text, Property, Condition, WideEdge, TooManyInEdge, Unknown, ReadFault, Memory}
 use Rattle.tv_top.specs.Answers.{without_cases, without_property}
-use Rattle.tv_top.specs.Headline.{Given, Asked, Tells, Means, IsAnswer, unasked, of_made, too_long, decided, failed, without_memory, most_bytes}
+use Rattle.tv_top.specs.Headline.{Given, Asked, Visited, Tells, Means, IsAnswer, unasked, of_made, too_long, decided, failed, without_memory, most_bytes}
 use Rattle.tv_top.specs.Properties.{IsUnnamed, UnlessMemory}
 use Rattle.tv_top.specs.Finding.{Offers}
-use Rattle.tv_top.specs.Tasks.{Task}
+use Rattle.tv_top.specs.Visiting.{FindsFinitely}
+use Rattle.tv_top.specs.Tasks.{Task, has_certificates}
 
 -- more bytes came than are read
 pub above : (most : ℕ) (A : Type 0) (old new : Seen) → GaveSome old new → (A ↔ (most < count_passed old new)) → A → (bytes : List ℕ) × Gave old new bytes × (most < length bytes)
@@ -63,6 +64,7 @@ IsElse Words = Unit {0}
 IsElse TooLong = Unit {0}
 IsElse (Text fault) = Unit {0}
 IsElse (Property fault) = Unit {0}
+IsElse (Condition fault) = Unit {0}
 IsElse (WideEdge edge) = Unit {0}
 IsElse (TooManyInEdge edge) = Unit {0}
 IsElse ReadFault = Unit {0}
@@ -74,6 +76,7 @@ not_told true offers task p f system text Words e h = h
 not_told true offers task p f system text TooLong e h = h
 not_told true offers task p f system text (Text fault) e h = h
 not_told true offers task p f system text (Property fault) e h = h
+not_told true offers task p f system text (Condition fault) e h = h
 not_told true offers task p f system text (WideEdge edge) e h = h
 not_told true offers task p f system text (TooManyInEdge edge) e h = h
 not_told true offers task p f system text ReadFault e h = h
@@ -87,6 +90,7 @@ not_told false offers task p f system text Words e h = h
 not_told false offers task p f system text TooLong e h = h
 not_told false offers task p f system text (Text fault) e h = h
 not_told false offers task p f system text (Property fault) e h = h
+not_told false offers task p f system text (Condition fault) e h = h
 not_told false offers task p f system text (WideEdge edge) e h = h
 not_told false offers task p f system text (TooManyInEdge edge) e h = h
 not_told false offers task p f system text ReadFault e h = h
@@ -97,7 +101,7 @@ not_told false offers task p f system text (CertificateLine line) e h = e
 not_told false offers task p f system text (Unknown cause) e h = e
 not_told false offers task p f system text Memory e h = e
 
-module _ (offers : Offers) (task : Task) (bytes : List ℕ) (asked : Asked task bytes) (system : CaseSystem) (are : linear_cases asked.given.program ≡ Ok system.cases) (of : IsOfProgram asked.given.program system) where
+module _ (offers : Offers) (task : Task) (bytes : List ℕ) (asked : Asked task bytes) (of_formula : has_certificates task.query ≡ true) (system : CaseSystem) (are : linear_cases asked.given.program ≡ Ok system.cases) (of : IsOfProgram asked.given.program system) where
   abbrev TellsIt : Answer → Type 0
   TellsIt answer = Tells task.checks offers task asked.given.program asked.property system asked.given.certificate_text answer
 
@@ -106,16 +110,38 @@ module _ (offers : Offers) (task : Task) (bytes : List ℕ) (asked : Asked task 
 
   -- what is told of the property is meant
   pub told : (answer : Answer) → TellsIt answer → Means offers task bytes answer
-  told (Proved certificate) h = record { asked = asked; cases = system; are_cases = are; of_program = of; says = h }
-  told (Disproved at certificate) h = record { asked = asked; cases = system; are_cases = are; of_program = of; says = h }
-  told (Obligation failing) h = record { asked = asked; cases = system; are_cases = are; of_program = of; says = h }
-  told (CertificateLine line) h = record { asked = asked; cases = system; are_cases = are; of_program = of; says = h }
-  told (Unknown cause) h = record { asked = asked; cases = system; are_cases = are; of_program = of; says = h }
+  told (Proved certificate) h = inl (record { asked = asked; of_formula = of_formula; cases = system; are_cases = are; of_program = of; says = h })
+  told (Disproved at certificate) h = record { asked = asked; of_formula = of_formula; cases = system; are_cases = are; of_program = of; says = h }
+  told (Obligation failing) h = record { asked = asked; of_formula = of_formula; cases = system; are_cases = are; of_program = of; says = h }
+  told (CertificateLine line) h = record { asked = asked; of_formula = of_formula; cases = system; are_cases = are; of_program = of; says = h }
+  told (Unknown cause) h = inl (record { asked = asked; of_formula = of_formula; cases = system; are_cases = are; of_program = of; says = h })
   told Memory h = tt
   told Words h = no_else Words tt h
   told TooLong h = no_else TooLong tt h
   told (Text fault) h = absurd (no_else (Text fault) tt h)
   told (Property fault) h = absurd (no_else (Property fault) tt h)
+  told (Condition fault) h = absurd (no_else (Condition fault) tt h)
   told (WideEdge edge) h = absurd (no_else (WideEdge edge) tt h)
   told (TooManyInEdge edge) h = absurd (no_else (TooManyInEdge edge) tt h)
   told ReadFault h = no_else ReadFault tt h
+
+-- what is told of visits is meant
+module _ (offers : Offers) (task : Task) (bytes : List ℕ) (asked : Asked task bytes) (of_visits : has_certificates task.query ≡ false) where
+  abbrev SaysIt : Answer → Type 0
+  SaysIt answer = FindsFinitely offers task asked.given.program asked.property answer
+
+  pub visited : (answer : Answer) → SaysIt answer → Means offers task bytes answer
+  visited (Proved certificate) h = inr (record { asked = asked; of_visits = of_visits; says = h })
+  visited (Unknown cause) h = inr (record { asked = asked; of_visits = of_visits; says = h })
+  visited (Condition fault) h = record { asked = asked; of_visits = of_visits; says = h }
+  visited Memory h = tt
+  visited (Disproved at certificate) h = absurd h
+  visited (Obligation failing) h = absurd h
+  visited (CertificateLine line) h = absurd h
+  visited Words h = h
+  visited TooLong h = h
+  visited (Text fault) h = absurd h
+  visited (Property fault) h = absurd h
+  visited (WideEdge edge) h = absurd h
+  visited (TooManyInEdge edge) h = absurd h
+  visited ReadFault h = h

@@ -25,9 +25,8 @@ use Rattle.tv_shape.specs.declared.certificate.Certificate.{Certificate}
 use Rattle.tv_lexrank.specs.Certified.{SaysProved}
 use Rattle.tv_sound.specs.Following.{FollowsFrom}
 use Rattle.tv_sound.specs.Settled.{IsSettled}
-use Rattle.tv_settling.specs.declared.fault.EndFault.{EndFault}
 use Rattle.tv_settling.specs.declared.fault.EndFault.TheVariants as ends
-use Rattle.tv_settling.specs.Ends.{IsStuckAlone, IsFirstFault, RefusesFound}
+use Rattle.tv_settling.specs.Ends.{IsStuckAlone}
 use Rattle.tv_settling.specs.Refusals.{RefusesSafety}
 use Rattle.tv_recur.specs.Refusing.{IsRefusal}
 use Rattle.tv_search.specs.Answers.{IsKnown, HasNoPoint, IsReached, IsUnsearched}
@@ -51,11 +50,15 @@ use Rattle.tv_rank.specs.declared.name.Name.{Name}
 use Rattle.tv_rank.specs.declared.name.Name.TheVariants.{Rows}
 use Rattle.tv_top.specs.declared.system_fault.SystemFault.{SystemFault}
 use Rattle.tv_top.specs.declared.system_fault.SystemFault.TheVariants as kept
+use Rattle.tv_nested.specs.declared.fault.NestFault.{NestFault}
+use Rattle.tv_nested.specs.declared.fault.NestFault.TheVariants as nested
+use Rattle.tv_top.specs.declared.named_system.NamedSystem.{NamedSystem}
+use Rattle.tv_top.specs.declared.named_system.NamedSystem.TheVariants.{Searched}
 use Rattle.tv_top.specs.declared.cause.Cause.{Cause}
 use Rattle.tv_top.specs.declared.cause.Cause.TheVariants.{Unsolved, Spent, Composed, Unranked, Weak, TooManyPaths, TooManyPieces, Drawn, Unsettled, WideComparison}
 use Rattle.tv_shape.specs.Certificates.{IsSettling}
 use Rattle.tv_top.specs.declared.answer.Answer.{Answer}
-use Rattle.tv_top.specs.declared.answer.Answer.TheVariants.{Proved, Disproved, Obligation, CertificateLine, Words, TooLong, Text, Property as Unnamed, WideEdge, TooManyInEdge, Unknown, ReadFault, Memory}
+use Rattle.tv_top.specs.declared.answer.Answer.TheVariants.{Proved, Disproved, Obligation, CertificateLine, Words, TooLong, Text, Property as Unnamed, Condition, WideEdge, TooManyInEdge, Unknown, ReadFault, Memory}
 use Rattle.tv_region.specs.declared.fault.RegionFault.{RegionFault}
 use Rattle.tv_region.specs.declared.fault.RegionFault.TheVariants as regions
 use Rattle.tv_pre.specs.declared.fault.PreFault.{PreFault}
@@ -70,9 +73,9 @@ use Rattle.tv_top.specs.declared.search.Search.{Search}
 use Rattle.tv_top.specs.Views.{wanted_view}
 use Rattle.tv_program.specs.Programs.{system_of}
 use Rattle.tv_cases.specs.Systems.{cases_of}
-use Rattle.tv_top.specs.Answers.{ended, unsolved, uncovered, unknown, too_wide}
+use Rattle.tv_top.specs.Answers.{unsettled, unsolved, uncovered, unnested, nest_system, unknown, too_wide}
 use Rattle.tv_top.specs.Tasks.{Wanted, Task}
-use Rattle.tv_top.specs.Finding.{of_solver, Offers, Finds, Settles, TellsClaim, SaysVerdict, IsTextOf, IsOpenEnd, IsEndFault, alone, round, found, IsSearchFault, IsWeakAt, AreTooManyAt, KeepsFrom, of_ends, of_safety, of_formula, budget_of, IsOther, IsUnprovedOf, AreTooMany, AreTooManyPieces}
+use Rattle.tv_top.specs.Finding.{of_solver, Offers, Finds, Settles, TellsClaim, SaysVerdict, IsTextOf, IsEndFault, IsEndQuestion, IsNestFault, HasUnnested, round, IsSearchFault, IsWeakAt, AreTooManyAt, KeepsFrom, of_ends, of_safety, of_formula, budget_of, IsOther, IsUnprovedOf, AreTooMany, AreTooManyPieces}
 use Rattle.tv_farkas.proofs.StretchLemmas.{short_all}
 
 met_there : (before after : List Entry) (e : Entry) → AllMet (before ++ e ∷ after) → (P : Type 0) → (AllMet (e ∷ after) → P) → P
@@ -104,6 +107,7 @@ module _ (wanted : Wanted) (p : System) (f : Property) (about : CaseSystem) (cla
   proved_so start text e is_text TooLong says = absurd says
   proved_so start text e is_text (Text fault) says = absurd says
   proved_so start text e is_text (Unnamed fault) says = absurd says
+  proved_so start text e is_text (Condition fault) says = absurd says
   proved_so start text e is_text (WideEdge edge) says = absurd says
   proved_so start text e is_text (TooManyInEdge edge) says = absurd says
   proved_so start text e is_text (Unknown cause) says = absurd says
@@ -133,6 +137,7 @@ module _ (wanted : Wanted) (p : System) (f : Property) (about : CaseSystem) (cla
   disproved_so piece values text e is_text TooLong says = absurd says
   disproved_so piece values text e is_text (Text fault) says = absurd says
   disproved_so piece values text e is_text (Unnamed fault) says = absurd says
+  disproved_so piece values text e is_text (Condition fault) says = absurd says
   disproved_so piece values text e is_text (WideEdge edge) says = absurd says
   disproved_so piece values text e is_text (TooManyInEdge edge) says = absurd says
   disproved_so piece values text e is_text (Unknown cause) says = absurd says
@@ -155,13 +160,14 @@ settles_found offers task p f about Words h = h
 settles_found offers task p f about TooLong h = h
 settles_found offers task p f about (Text fault) h = h
 settles_found offers task p f about (Unnamed fault) h = h
+settles_found offers task p f about (Condition fault) h = h
 settles_found offers task p f about (WideEdge edge) h = h
 settles_found offers task p f about (TooManyInEdge edge) h = h
 settles_found offers task p f about ReadFault h = h
 
 -- a system that was not settled is answered, where each reason for it is found
-unsolved_so : (offers : Offers) (task : Task) (p : System) (f : Property) (about : CaseSystem) (system : Name) (fault : SolveFault)
-    → ((e : SystemFault) → of_solver e ≡ fault → Finds offers task p f about (Unknown (Unsolved system e))) → Finds offers task p f about (unsolved system fault)
+unsolved_so : (offers : Offers) (task : Task) (p : System) (f : Property) (about : CaseSystem) (system : NamedSystem) (fault : SolveFault)
+    → ((e : SystemFault) → of_solver e ≡ fault → Finds offers task p f about (Unknown (Unsolved system e))) → Finds offers task p f about (unsettled system fault)
 unsolved_so offers task p f about system (solving.Width basis row column) h = h (kept.Width basis row column) refl
 unsolved_so offers task p f about system (solving.Scale basis) h = h (kept.Scale basis) refl
 unsolved_so offers task p f about system (solving.Pivots bases) h = h (kept.Pivots bases) refl
@@ -173,31 +179,39 @@ module _ (offers : Offers) (task : Task) (p : System) (f : Property) (about : Ca
   abbrev budget : Budget
   budget = budget_of task.limits
 
-  uncovered_end : (fault : CoverFault) → IsEndFault about (offers about) budget (ends.Cover fault) → Finds offers task p f about (uncovered fault)
+  uncovered_end : (fault : CoverFault) → IsEndQuestion about (offers about) budget fault → Finds offers task p f about (uncovered fault)
   uncovered_end (covers.Splits path) h = of_ends n h
   uncovered_end (covers.Solve rows fault) h =
-      unsolved_so offers task p f about (Rows rows) fault (λ e same. of_ends n (inr (rows, refl, subst (λ k. IsEndFault about (offers about) budget (ends.Cover (covers.Solve rows k))) (sym same) h)))
+      unsolved_so offers task p f about (Searched (Rows rows)) fault (λ e same. of_ends n (inr (rows, refl, subst (λ k. IsEndQuestion about (offers about) budget (covers.Solve rows k)) (sym same) h)))
   uncovered_end (covers.Wide column) h = of_ends n h
   uncovered_end covers.Memory h = tt
 
-  ended_so : (fault : EndFault) → IsEndFault about (offers about) budget fault → Finds offers task p f about (ended fault)
-  ended_so (ends.Solve system fault) h =
-      unsolved_so offers task p f about system fault (λ e same. of_ends n (inl (subst (λ k. IsEndFault about (offers about) budget (ends.Solve system k)) (sym same) h)))
-  ended_so (ends.Cover fault) h = uncovered_end fault h
-  ended_so (ends.Rank set barriers) h = of_ends n h
-  ended_so ends.Memory h = tt
+  -- a system of the search for ranks that was not settled is answered
+  pub system_so : (system : Name) (fault : SolveFault) → IsEndFault about (offers about) budget (ends.Solve system fault) → Finds offers task p f about (unsolved system fault)
+  system_so system fault h =
+      unsolved_so offers task p f about (Searched system) fault
+      (λ e same. of_ends n (inl (inl (system, refl, subst (λ k. IsEndFault about (offers about) budget (ends.Solve system k)) (sym same) h))))
 
-  -- a system that was not settled is answered
-  pub first_so : (fault : EndFault) → IsFirstFault about budget fault → Finds offers task p f about (ended fault)
-  first_so fault h = ended_so fault (alone h)
-
-  -- and so is why there is no certificate under rows that are found
-  pub found_so : IsOpenEnd about → (fault : EndFault) → RefusesFound about (offers about) budget fault → Finds offers task p f about (ended fault)
-  found_so o fault h = ended_so fault (found o h)
+  -- and so is a question of integer points
+  pub question_end : (fault : CoverFault) → IsEndFault about (offers about) budget (ends.Cover fault) → Finds offers task p f about (uncovered fault)
+  question_end fault h = uncovered_end fault (inl h)
 
   -- and why no run that never ends was found
   pub round_so : IsStuckAlone about → (fault : CoverFault) → IsRefusal about budget fault → Finds offers task p f about (uncovered fault)
-  round_so stuck fault h = uncovered_end fault (round stuck fault refl h)
+  round_so stuck fault h = question_end fault (round stuck fault refl h)
+
+  -- and why it was not settled whether terms are nested
+  pub unnested_so : (fault : NestFault) → IsNestFault about (offers about) budget fault → Finds offers task p f about (unnested fault)
+  unnested_so (nested.Solve system fault) h =
+      unsolved_so offers task p f about (nest_system system) fault
+      (λ e same. of_ends n (inl (inr (system, refl, subst (λ k. IsNestFault about (offers about) budget (nested.Solve system k)) (sym same) h))))
+  unnested_so (nested.Cover fault) h = uncovered_end fault (inr h)
+  unnested_so nested.Memory h = tt
+
+  -- no terms rank the cases, and none are nested
+  pub unranked_so : (set : Vec ℕ Global) (barriers : Vec (Vec ℤ Global) Global) → IsEndFault about (offers about) budget (ends.Rank set barriers) → HasUnnested about
+      → Finds offers task p f about (Unknown (Unranked set barriers))
+  unranked_so set barriers h none = of_ends n (h, none)
 
 -- ---- why it is not known whether a run comes to a location
 module _ (offers : Offers) (task : Task) (p : System) (f : Property) (about : CaseSystem) (l : ℕ) (n : normal f ≡ never_at l) where
@@ -207,7 +221,7 @@ module _ (offers : Offers) (task : Task) (p : System) (f : Property) (about : Ca
   pub uncovered_near : (fault : CoverFault) → IsSearchFault about (offers about) limit l fault → Finds offers task p f about (uncovered fault)
   uncovered_near (covers.Splits path) h = of_safety l n h
   uncovered_near (covers.Solve rows fault) h =
-      unsolved_so offers task p f about (Rows rows) fault (λ e same. of_safety l n (rows, refl, subst (λ k. IsSearchFault about (offers about) limit l (covers.Solve rows k)) (sym same) h))
+      unsolved_so offers task p f about (Searched (Rows rows)) fault (λ e same. of_safety l n (rows, refl, subst (λ k. IsSearchFault about (offers about) limit l (covers.Solve rows k)) (sym same) h))
   uncovered_near (covers.Wide column) h = of_safety l n (inl h)
   uncovered_near covers.Memory h = tt
 
@@ -283,14 +297,14 @@ module _ (offers : Offers) (task : Task) (p : System) (f : Property) (about : Ca
   region_so (regions.Wide column) answer a h = subst (Finds offers task p f about) (sym a) (of_formula other (inl h))
   region_so (regions.Solve rows fault) answer a h =
       subst (Finds offers task p f about) (sym a)
-      (unsolved_so offers task p f about (Rows rows) fault (λ e same.
+      (unsolved_so offers task p f about (Searched (Rows rows)) fault (λ e same.
       of_formula other (inl (rows, refl, inl (subst (λ k. IsUnprovedOf about f spent (Refused (faults.Region (regions.Solve rows k)))) (sym same) h)))))
   region_so regions.Memory answer a h = subst (Finds offers task p f about) (sym a) tt
 
   question_so : (fault : CoverFault) → IsUnprovedOf about f spent (Refused (faults.Cover fault)) → Finds offers task p f about (uncovered fault)
   question_so (covers.Splits path) h = of_formula other h
   question_so (covers.Solve rows fault) h =
-      unsolved_so offers task p f about (Rows rows) fault (λ e same.
+      unsolved_so offers task p f about (Searched (Rows rows)) fault (λ e same.
       of_formula other (inl (rows, refl, inr (subst (λ k. IsUnprovedOf about f spent (Refused (faults.Cover (covers.Solve rows k)))) (sym same) h))))
   question_so (covers.Wide column) h = of_formula other (inr h)
   question_so covers.Memory h = tt
@@ -300,8 +314,8 @@ module _ (offers : Offers) (task : Task) (p : System) (f : Property) (about : Ca
   refused_so (faults.Cover fault) answer a h = subst (Finds offers task p f about) (sym a) (question_so fault h)
   refused_so (faults.Rank system fault) answer a h =
       subst (Finds offers task p f about) (sym a)
-      (unsolved_so offers task p f about system fault (λ e same.
-      of_formula other (inr (subst (λ k. IsUnprovedOf about f spent (Refused (faults.Rank system k))) (sym same) h))))
+      (unsolved_so offers task p f about (Searched system) fault (λ e same.
+      of_formula other (inr (system, refl, subst (λ k. IsUnprovedOf about f spent (Refused (faults.Rank system k))) (sym same) h))))
   refused_so faults.Memory answer a h = subst (Finds offers task p f about) (sym a) tt
 
   left_so : (gap : Gap) (answer : Answer) → AnswersLeft about gap answer → IsUnprovedOf about f spent (Left gap) → Finds offers task p f about answer

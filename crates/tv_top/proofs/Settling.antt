@@ -15,7 +15,7 @@ use Rattle.tv_check_text.specs.Texts.{IsUnaccepted}
 use Rattle.tv_sound.specs.Following.{FollowsFrom}
 use Rattle.tv_sound.specs.Settled.{IsSettled}
 use Rattle.tv_top.specs.declared.answer.Answer.{Answer}
-use Rattle.tv_top.specs.declared.answer.Answer.TheVariants.{Proved, Disproved, Obligation, CertificateLine, Words, TooLong, Text, Property as Unnamed, WideEdge, TooManyInEdge, Unknown, ReadFault, Memory}
+use Rattle.tv_top.specs.declared.answer.Answer.TheVariants.{Proved, Disproved, Obligation, CertificateLine, Words, TooLong, Text, Property as Unnamed, Condition, WideEdge, TooManyInEdge, Unknown, ReadFault, Memory}
 use Rattle.tv_top.specs.Answers.{without_certificate}
 use Rattle.tv_top.specs.CertificateChecks.{Accepted, IsProved, AnswersCheck, Says, SaysHolds, SaysValues}
 
@@ -38,6 +38,7 @@ values_so p f system text accepted piece values is settled along Words says = ab
 values_so p f system text accepted piece values is settled along TooLong says = absurd says
 values_so p f system text accepted piece values is settled along (Text fault) says = absurd says
 values_so p f system text accepted piece values is settled along (Unnamed fault) says = absurd says
+values_so p f system text accepted piece values is settled along (Condition fault) says = absurd says
 values_so p f system text accepted piece values is settled along (WideEdge edge) says = absurd says
 values_so p f system text accepted piece values is settled along (TooManyInEdge edge) says = absurd says
 values_so p f system text accepted piece values is settled along (Unknown cause) says = absurd says
@@ -54,6 +55,7 @@ holds_so p f system text proved Words says = absurd says
 holds_so p f system text proved TooLong says = absurd says
 holds_so p f system text proved (Text fault) says = absurd says
 holds_so p f system text proved (Unnamed fault) says = absurd says
+holds_so p f system text proved (Condition fault) says = absurd says
 holds_so p f system text proved (WideEdge edge) says = absurd says
 holds_so p f system text proved (TooManyInEdge edge) says = absurd says
 holds_so p f system text proved (Unknown cause) says = absurd says

@@ -17,18 +17,25 @@ use Rattle.tv_farkas.specs.declared.fault.CoverFault.{CoverFault}
 use Rattle.tv_farkas.specs.declared.fault.CoverFault.TheVariants as covers
 use Rattle.tv_rank.specs.declared.name.Name.{Name}
 use Rattle.tv_rank.specs.declared.name.Name.TheVariants.{Rows}
+use Rattle.tv_rank.specs.declared.name.Name.TheVariants as systems
+use Rattle.tv_nested.specs.declared.fault.NestName.{NestName}
+use Rattle.tv_nested.specs.declared.fault.NestName.TheVariants as nests
+use Rattle.tv_nested.specs.declared.fault.NestFault.{NestFault}
+use Rattle.tv_nested.specs.declared.fault.NestFault.TheVariants as nested
+use Rattle.tv_top.specs.declared.named_system.NamedSystem.{NamedSystem}
+use Rattle.tv_top.specs.declared.named_system.NamedSystem.TheVariants.{Searched, Nested, Visited}
 use Rattle.tv_points.specs.declared.fault.PointFault.{PointFault}
 use Rattle.tv_points.specs.declared.fault.PointFault.TheVariants as points
-use Rattle.tv_settling.specs.declared.fault.EndFault.{EndFault}
-use Rattle.tv_settling.specs.declared.fault.EndFault.TheVariants as ends
 use Rattle.tv_check_text.specs.declared.text.TextFailing.{TextFailing}
 use Rattle.tv_check_text.specs.declared.text.TextFailing.TheVariants as certs
 use Rattle.tv_interleave.specs.declared.fault.InterFault.{InterFault}
 use Rattle.tv_interleave.specs.declared.fault.InterFault.TheVariants as joint
 use Rattle.tv_interleave.specs.declared.texts.TextFault.{TextFault}
 use Rattle.tv_interleave.specs.declared.texts.TextFault.TheVariants as texts
+use Rattle.tv_finitely.specs.declared.split_program.SplitFault.{SplitFault}
+use Rattle.tv_finitely.specs.declared.split_program.SplitFault.TheVariants as splits
 use Rattle.tv_top.specs.declared.answer.Answer.{Answer}
-use Rattle.tv_top.specs.declared.answer.Answer.TheVariants.{Proved, Disproved, Obligation, CertificateLine, Words, TooLong, Text, Property, WideEdge, TooManyInEdge, Unknown, ReadFault, Memory}
+use Rattle.tv_top.specs.declared.answer.Answer.TheVariants.{Proved, Disproved, Obligation, CertificateLine, Words, TooLong, Text, Property, Condition, WideEdge, TooManyInEdge, Unknown, ReadFault, Memory}
 use Rattle.tv_top.specs.declared.cause.Cause.{Cause}
 use Rattle.tv_top.specs.declared.cause.Cause.TheVariants.{Unsolved, Spent, Composed, Unranked}
 use Rattle.tv_top.specs.declared.status.Status.{Status}
@@ -112,6 +119,24 @@ property_line (formulas.Deep at) = column_line (codes "deep") at
 property_line formulas.Long = codes "Refused property too long" ++ 10 ∷ []
 property_line formulas.Memory = []
 
+-- the line with the number of an edge of the program, each edge of which has two copies side by side
+abbrev pub edge_of_copy : ℕ → List ℕ
+edge_of_copy copy = codes "Refused property cases edge " ++ (decimal (copy / 2) ++ 10 ∷ [])
+
+-- the line where the program with the copies has no linear cases
+abbrev pub doubled_line : CaseFault → List ℕ
+doubled_line (cases.Wide copy) = edge_of_copy copy
+doubled_line (cases.TooMany copy) = edge_of_copy copy
+doubled_line cases.Memory = []
+
+-- the line where the program is not split by the property of states
+abbrev pub condition_line : SplitFault → List ℕ
+condition_line splits.Temporal = codes "Refused property temporal" ++ 10 ∷ []
+condition_line (splits.Edges count) = codes "Refused property edges " ++ (decimal count ++ 10 ∷ [])
+condition_line splits.Deep = codes "Refused property deep" ++ 10 ∷ []
+condition_line (splits.Case fault) = doubled_line fault
+condition_line splits.Memory = []
+
 -- the line of a variable: its name and its value
 abbrev pub value_line : Word → ℤ → List ℕ
 value_line name value = name ++ (codes " = " ++ (signed_decimal value ++ 10 ∷ []))
@@ -132,6 +157,7 @@ plain_line Words = codes "Refused words" ++ 10 ∷ []
 plain_line TooLong = codes "Refused text too long" ++ 10 ∷ []
 plain_line (Text fault) = text_line fault
 plain_line (Property fault) = property_line fault
+plain_line (Condition fault) = condition_line fault
 plain_line (WideEdge edge) = codes "Refused text wide edge " ++ (decimal edge ++ 10 ∷ [])
 plain_line (TooManyInEdge edge) = codes "Refused text too many edge " ++ (decimal edge ++ 10 ∷ [])
 plain_line (Unknown cause) = cause_line cause
@@ -159,6 +185,7 @@ status_of Words = statuses.Refused
 status_of TooLong = statuses.Refused
 status_of (Text fault) = statuses.Refused
 status_of (Property fault) = statuses.Refused
+status_of (Condition fault) = statuses.Refused
 status_of (WideEdge edge) = statuses.Refused
 status_of (TooManyInEdge edge) = statuses.Refused
 status_of (Unknown cause) = statuses.Unknown
@@ -193,12 +220,21 @@ without_property formulas.Long = Property formulas.Long
 without_property formulas.Memory = Memory
 
 -- the answer where a linear system was not settled: why, and where memory ran out, that alone
+abbrev pub unsettled : NamedSystem → SolveFault → Answer
+unsettled system (solving.Width basis row column) = Unknown (Unsolved system (kept.Width basis row column))
+unsettled system (solving.Scale basis) = Unknown (Unsolved system (kept.Scale basis))
+unsettled system (solving.Pivots bases) = Unknown (Unsolved system (kept.Pivots bases))
+unsettled system (solving.Size rows columns) = Unknown (Unsolved system (kept.Size rows columns))
+unsettled system solving.Memory = Memory
+
 abbrev pub unsolved : Name → SolveFault → Answer
-unsolved system (solving.Width basis row column) = Unknown (Unsolved system (kept.Width basis row column))
-unsolved system (solving.Scale basis) = Unknown (Unsolved system (kept.Scale basis))
-unsolved system (solving.Pivots bases) = Unknown (Unsolved system (kept.Pivots bases))
-unsolved system (solving.Size rows columns) = Unknown (Unsolved system (kept.Size rows columns))
-unsolved system solving.Memory = Memory
+unsolved system fault = unsettled (Searched system) fault
+
+-- the name of a system of the search for nested terms
+abbrev pub nest_system : NestName → NamedSystem
+nest_system (nests.Empty k) = Searched (systems.Empty k)
+nest_system (nests.Rank component round falling) = Searched (systems.Rank component round falling)
+nest_system (nests.Nest component depth) = Nested component depth
 
 -- the answer where a question of integer points was not settled
 abbrev pub uncovered : CoverFault → Answer
@@ -207,12 +243,11 @@ uncovered (covers.Solve rows fault) = unsolved (Rows rows) fault
 uncovered (covers.Wide column) = Unknown (Composed column)
 uncovered covers.Memory = Memory
 
--- the answer where it is not known whether every run ends
-abbrev pub ended : EndFault → Answer
-ended (ends.Solve system fault) = unsolved system fault
-ended (ends.Cover fault) = uncovered fault
-ended (ends.Rank set barriers) = Unknown (Unranked set barriers)
-ended ends.Memory = Memory
+-- the answer where it is not known whether terms are nested
+abbrev pub unnested : NestFault → Answer
+unnested (nested.Solve system fault) = unsettled (nest_system system) fault
+unnested (nested.Cover fault) = uncovered fault
+unnested nested.Memory = Memory
 
 -- the answer with a cause, unless memory runs out
 abbrev pub unknown : Result Cause AllocError → Answer

@@ -6,15 +6,23 @@ use Rattle.tv_top.specs.declared.system_fault.SystemFault.{SystemFault}
 use Rattle.tv_top.specs.declared.system_fault.SystemFault.TheVariants as kept
 use Rattle.tv_rank.specs.declared.name.Name.{Name}
 use Rattle.tv_rank.specs.declared.name.Name.TheVariants as systems
+use Rattle.tv_top.specs.declared.named_system.NamedSystem.{NamedSystem}
+use Rattle.tv_top.specs.declared.named_system.NamedSystem.TheVariants.{Searched, Nested, Visited}
 use Rattle.tv_top.specs.declared.cause.Cause.{Cause}
 use Rattle.tv_top.specs.declared.cause.Cause.TheVariants.{Unsolved, Spent, Composed, Unranked, Weak, TooManyPaths, TooManyPieces, Drawn, Unsettled, WideComparison}
 
+-- the words that name a linear system of the search for ranks, or of a question of integer points
+abbrev pub searched_words : Name → List ℕ
+searched_words (systems.Empty k) = codes "empty " ++ decimal k
+searched_words (systems.Rank component round falling) = codes "rank " ++ (decimal component ++ (codes " " ++ (decimal round ++ (codes " " ++ decimal falling))))
+searched_words (systems.Rows rows) = codes "rows " ++ decimal (length rows.items)
+searched_words (systems.Later set falling) = codes "later " ++ decimal (length set.items)
+
 -- the words that name a linear system
-abbrev pub system_words : Name → List ℕ
-system_words (systems.Empty k) = codes "empty " ++ decimal k
-system_words (systems.Rank component round falling) = codes "rank " ++ (decimal component ++ (codes " " ++ (decimal round ++ (codes " " ++ decimal falling))))
-system_words (systems.Rows rows) = codes "rows " ++ decimal (length rows.items)
-system_words (systems.Later set falling) = codes "later " ++ decimal (length set.items)
+abbrev pub system_words : NamedSystem → List ℕ
+system_words (Searched system) = searched_words system
+system_words (Nested component depth) = codes "nest " ++ (decimal component ++ (codes " " ++ decimal depth))
+system_words (Visited system) = codes "visits " ++ searched_words system
 
 -- the line of the cause for which a linear system was not settled
 abbrev pub unsolved_line : SystemFault → List ℕ
@@ -33,7 +41,7 @@ two_numbers_detail system plural rows columns =
     codes "system " ++ (system ++ (codes " row" ++ (plural ++ (codes " " ++ (decimal rows ++ (codes " column" ++ (plural ++ (codes " " ++ (decimal columns ++ 10 ∷ [])))))))))
 
 -- the line that says which system it is, and where or how it was not settled
-abbrev pub system_line : Name → SystemFault → List ℕ
+abbrev pub system_line : NamedSystem → SystemFault → List ℕ
 system_line system (kept.Width basis row column) = two_numbers_detail (system_words system) [] row column
 system_line system (kept.Scale basis) = codes "system " ++ (system_words system ++ (codes " scale" ++ 10 ∷ []))
 system_line system (kept.Pivots bases) = numbered_detail (system_words system) (codes "bases") bases

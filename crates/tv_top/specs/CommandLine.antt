@@ -18,7 +18,9 @@ bare_command = on_top (λ s. record s { no_binary_name = true; disable_help_flag
 
 -- with what names the property, and perhaps the program
 abbrev pub with_tasks : App → App
-with_tasks a = with_rule (with_rule (with_rule (with_rule a (flag (codes "termination"))) (option (codes "safety"))) (option (codes "ctl"))) (option (codes "generate"))
+with_tasks a =
+    with_rule (with_rule (with_rule (with_rule (with_rule a (flag (codes "termination"))) (option (codes "safety"))) (option (codes "ctl")))
+    (option (codes "finitely"))) (option (codes "generate"))
 
 -- with what is done with certificates, and with runs
 abbrev pub with_certificates : App → App

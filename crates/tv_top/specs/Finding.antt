@@ -25,6 +25,13 @@ use Rattle.tv_farkas.specs.declared.fault.CoverFault.{CoverFault}
 use Rattle.tv_farkas.specs.declared.fault.CoverFault.TheVariants as covers
 use Rattle.tv_rank.specs.declared.name.Name.{Name}
 use Rattle.tv_rank.specs.declared.name.Name.TheVariants as systems
+use Rattle.tv_nested.specs.Nested.{IsUnnested, RefusesNest}
+use Rattle.tv_nested.specs.declared.fault.NestName.{NestName}
+use Rattle.tv_nested.specs.declared.fault.NestFault.{NestFault}
+use Rattle.tv_nested.specs.declared.fault.NestFault.TheVariants as nests
+use Rattle.tv_top.specs.declared.named_system.NamedSystem.{NamedSystem}
+use Rattle.tv_top.specs.declared.named_system.NamedSystem.TheVariants.{Searched, Nested, Visited}
+use Rattle.tv_top.specs.Answers.{nest_system}
 use Rattle.tv_simplex.specs.declared.fault.SolveFault.{SolveFault}
 use Rattle.tv_simplex.specs.declared.fault.SolveFault.TheVariants as solving
 use Rattle.tv_cert.specs.declared.claim.Claim.{Claim}
@@ -144,7 +151,7 @@ of_solver (kept.Size rows columns) = solving.Size rows columns
 
 -- a question of integer points that was not settled, as it is answered
 abbrev pub IsUncovered : (CoverFault → Type 0) → Cause → Type 0
-IsUncovered Is (Unsolved system e) = (rows : _) × (system ≡ systems.Rows rows) × Is (covers.Solve rows (of_solver e))
+IsUncovered Is (Unsolved system e) = (rows : _) × (system ≡ Searched (systems.Rows rows)) × Is (covers.Solve rows (of_solver e))
 IsUncovered Is (Spent path) = Is (covers.Splits path)
 IsUncovered Is (Composed column) = Is (covers.Wide column)
 IsUncovered Is cause = ⊥
@@ -162,10 +169,31 @@ pub data IsEndFault (about : CaseSystem) (Given : List (List Candidate) → Type
   round : IsStuckAlone about → (f : CoverFault) → e ≡ ends.Cover f → IsRefusal about budget f → IsEndFault about Given budget e
   found : IsOpenEnd about → RefusesFound about Given budget e → IsEndFault about Given budget e
 
+-- some set of a component is without nested terms
+abbrev pub HasUnnested : CaseSystem → Type 0
+HasUnnested about = (component : ℕ) × (set : List ℕ) × (barriers : List (List ℤ)) × IsUnnested about component set barriers
+
+-- no terms rank the cases that are left under the rows that are found, and it was not settled whether terms are nested
+pub record IsNestFault (about : CaseSystem) (Given : List (List Candidate) → Type 0) (budget : Budget) (f : NestFault) : Type 0 where
+  pub set : Vec ℕ Global
+  pub barriers : Vec (Vec ℤ Global) Global
+  pub unranked : IsEndFault about Given budget (ends.Rank set barriers)
+  pub refused : RefusesNest about budget f
+
+-- a question of integer points of the search for ranks, or for nested terms, was not settled
+abbrev pub IsEndQuestion : CaseSystem → (List (List Candidate) → Type 0) → Budget → CoverFault → Type 0
+IsEndQuestion about Given budget f = IsEndFault about Given budget (ends.Cover f) ⊎ IsNestFault about Given budget (nests.Cover f)
+
+-- a system of the search for ranks, or for nested terms, was not settled
+abbrev pub IsEndSystem : CaseSystem → (List (List Candidate) → Type 0) → Budget → NamedSystem → SolveFault → Type 0
+IsEndSystem about Given budget system e =
+    ((name : Name) × (system ≡ Searched name) × IsEndFault about Given budget (ends.Solve name e))
+    ⊎ ((name : NestName) × (system ≡ nest_system name) × IsNestFault about Given budget (nests.Solve name e))
+
 abbrev pub IsEndCause : CaseSystem → (List (List Candidate) → Type 0) → Budget → Cause → Type 0
-IsEndCause about Given budget (Unsolved system e) = IsEndFault about Given budget (ends.Solve system (of_solver e)) ⊎ IsUncovered (λ f. IsEndFault about Given budget (ends.Cover f)) (Unsolved system e)
-IsEndCause about Given budget (Unranked set barriers) = IsEndFault about Given budget (ends.Rank set barriers)
-IsEndCause about Given budget cause = IsUncovered (λ f. IsEndFault about Given budget (ends.Cover f)) cause
+IsEndCause about Given budget (Unsolved system e) = IsEndSystem about Given budget system (of_solver e) ⊎ IsUncovered (IsEndQuestion about Given budget) (Unsolved system e)
+IsEndCause about Given budget (Unranked set barriers) = IsEndFault about Given budget (ends.Rank set barriers) × HasUnnested about
+IsEndCause about Given budget cause = IsUncovered (IsEndQuestion about Given budget) cause
 
 -- ---- why it is not known whether a run comes to a location
 
@@ -248,10 +276,10 @@ IsEither about f budget region cover =
     IsUnprovedOf about f budget (Refused (faults.Region region)) ⊎ IsUnprovedOf about f budget (Refused (faults.Cover cover))
 
 -- it is a system of rows, of such a call or question; or one of the search for ranks of the program
-abbrev pub IsUnsolved : CaseSystem → Property → Budget → Name → SolveFault → Type 0
+abbrev pub IsUnsolved : CaseSystem → Property → Budget → NamedSystem → SolveFault → Type 0
 IsUnsolved about f budget system e =
-    ((rows : _) × (system ≡ systems.Rows rows) × IsEither about f budget (regions.Solve rows e) (covers.Solve rows e))
-    ⊎ IsUnprovedOf about f budget (Refused (faults.Rank system e))
+    ((rows : _) × (system ≡ Searched (systems.Rows rows)) × IsEither about f budget (regions.Solve rows e) (covers.Solve rows e))
+    ⊎ ((name : Name) × (system ≡ Searched name) × IsUnprovedOf about f budget (Refused (faults.Rank name e)))
 
 -- where no case has a draw, `count` is above the limit on pieces, and no more than each size of the property
 abbrev pub IsWithinSize : CaseSystem → Property → Budget → ℕ → Type 0

@@ -1,5 +1,5 @@
 -- What an answer says of the words and of the bytes that were read.
-use Rattle.std.specs.Prelude.{◌≡◌, ℕ, ◌<◌, ◌≤◌, List, [], length, take, Bool, true, false, Ok, Err, None, Some, if◌then◌else◌}
+use Rattle.std.specs.Prelude.{◌≡◌, ◌⊎◌, ℕ, ◌<◌, ◌≤◌, List, [], length, take, Bool, true, false, Ok, Err, None, Some, if◌then◌else◌}
 use Rattle.std.specs.Io.KnownBytes.{IsAtEnd}
 use Rattle.tv_text.specs.Stream.{Seen, Gave, GaveSome, Took}
 use Rattle.tv_text.specs.Headings.{IsSplit}
@@ -10,7 +10,7 @@ use Rattle.tv_cases.specs.LinearCases.{CaseSystem}
 use Rattle.tv_cases.specs.ProgramCases.{LinearFault, wide, too_many, linear_cases}
 use Rattle.tv_cases.specs.Answers.{IsOfProgram}
 use Rattle.tv_top.specs.declared.answer.Answer.{Answer}
-use Rattle.tv_top.specs.declared.answer.Answer.TheVariants.{Proved, Disproved, Obligation, CertificateLine, Words, TooLong, Text, Property, WideEdge, TooManyInEdge, Unknown, ReadFault, Memory}
+use Rattle.tv_top.specs.declared.answer.Answer.TheVariants.{Proved, Disproved, Obligation, CertificateLine, Words, TooLong, Text, Property, Condition, WideEdge, TooManyInEdge, Unknown, ReadFault, Memory}
 use Rattle.tv_top.specs.declared.status.Status.{Status}
 use Rattle.tv_top.specs.declared.status.Status.TheVariants as statuses
 use Rattle.tv_top.specs.Answers.{lines_of, status_of}
@@ -19,8 +19,9 @@ use Rattle.tv_interleave.specs.declared.texts.TextFault.{TextFault}
 use Rattle.tv_interleave.specs.Texts.{IsProgramOf, IsFirstFault}
 use Rattle.tv_top.specs.Properties.{IsNamed, IsUnnamed}
 use Rattle.tv_top.specs.Generated.{generated_text}
-use Rattle.tv_top.specs.Tasks.{Task, made_loops, task_of}
+use Rattle.tv_top.specs.Tasks.{Task, has_certificates, made_loops, task_of}
 use Rattle.tv_top.specs.Finding.{Offers, Finds}
+use Rattle.tv_top.specs.Visiting.{FindsFinitely}
 
 -- how many bytes are read at most: of a program and a certificate that is to be checked, or of a program alone
 abbrev pub most_bytes : Bool → ℕ
@@ -39,7 +40,7 @@ pub record Given (task : Task) (bytes : List ℕ) : Type 0 where
   pub program : System
   pub is_program : IsProgramOf program_text program
 
--- the words name a property of the program
+-- the words name a formula over the program: a property of it, or one of its states that may hold only finitely often
 pub record Asked (task : Task) (bytes : List ℕ) : Type 0 where
   pub given : Given task bytes
   pub property : Formula
@@ -53,10 +54,17 @@ Tells false offers task p f cases text answer = Finds offers task p f cases answ
 -- The answer says this where the words name a property of the program. The cases are the program's.
 pub record Settled (offers : Offers) (task : Task) (bytes : List ℕ) (answer : Answer) : Type 0 where
   pub asked : Asked task bytes
+  pub of_formula : has_certificates task.query ≡ true
   pub cases : CaseSystem
   pub are_cases : linear_cases asked.given.program ≡ Ok cases.cases
   pub of_program : IsOfProgram asked.given.program cases
   pub says : Tells task.checks offers task asked.given.program asked.property cases asked.given.certificate_text answer
+
+-- the answer says this where it is asked whether a property of states holds only finitely often
+pub record Visited (offers : Offers) (task : Task) (bytes : List ℕ) (answer : Answer) : Type 0 where
+  pub asked : Asked task bytes
+  pub of_visits : has_certificates task.query ≡ false
+  pub says : FindsFinitely offers task asked.given.program asked.property answer
 
 -- the text of the program, which is none, has this as its first fault
 pub record IsRefusedText (task : Task) (bytes : List ℕ) (fault : TextFault) : Type 0 where
@@ -77,13 +85,14 @@ pub record HasNoCases (task : Task) (bytes : List ℕ) (fault : LinearFault) : T
 
 -- What the answer says where the words ask this, and these are all bytes that came out of the source.
 abbrev pub Means : Offers → Task → List ℕ → Answer → Type 0
-Means offers task bytes (Proved certificate) = Settled offers task bytes (Proved certificate)
+Means offers task bytes (Proved certificate) = Settled offers task bytes (Proved certificate) ⊎ Visited offers task bytes (Proved certificate)
 Means offers task bytes (Disproved at certificate) = Settled offers task bytes (Disproved at certificate)
 Means offers task bytes (Obligation failing) = Settled offers task bytes (Obligation failing)
 Means offers task bytes (CertificateLine line) = Settled offers task bytes (CertificateLine line)
-Means offers task bytes (Unknown cause) = Settled offers task bytes (Unknown cause)
+Means offers task bytes (Unknown cause) = Settled offers task bytes (Unknown cause) ⊎ Visited offers task bytes (Unknown cause)
 Means offers task bytes (Text fault) = IsRefusedText task bytes fault
 Means offers task bytes (Property fault) = HasNoProperty task bytes fault
+Means offers task bytes (Condition fault) = Visited offers task bytes (Condition fault)
 Means offers task bytes (WideEdge edge) = HasNoCases task bytes (wide edge)
 Means offers task bytes (TooManyInEdge edge) = HasNoCases task bytes (too_many edge)
 Means offers task bytes Memory = Unit {0}

@@ -10,5 +10,6 @@ pub mod Properties
 pub mod CertificateChecks
 pub mod Finding
 pub mod Searching
+pub mod Visiting
 pub mod Headline
 pub mod Accepted

@@ -9,7 +9,7 @@ use Rattle.tv_formula_reader.specs.FormulaTexts.{IsFormulaText}
 use Rattle.tv_formula_reader.specs.Refusals.{IsFirstFault}
 use Rattle.tv_formula_reader.specs.declared.fault.FormulaFault.{FormulaFault}
 use Rattle.tv_formula_reader.specs.declared.fault.FormulaFault.TheVariants as faults
-use Rattle.tv_top.specs.Tasks.{Query, safety, termination, ctl}
+use Rattle.tv_top.specs.Tasks.{Query, safety, termination, ctl, finitely}
 
 -- no run comes to the location with the label
 pub record IsNeverAt (p : System) (label : Word) (f : Property) : Type 0 where
@@ -26,11 +26,12 @@ pub record IsGivenFormula (p : System) (text : List ℕ) (f : Property) : Type 0
   pub short : length text ≤ most_formula_bytes
   pub is_text : IsFormulaText p text f
 
--- the property of the program that is asked about
+-- the formula that is asked about: a property of the program, or one of its states that may hold only finitely often
 abbrev pub IsNamed : System → Query → Property → Type 0
 IsNamed p (safety label) f = IsNeverAt p label f
 IsNamed p termination f = f ≡ term
 IsNamed p (ctl text) f = IsGivenFormula p text f
+IsNamed p (finitely text) f = IsGivenFormula p text f
 
 -- The text has no more bytes than a formula may have, and is that of none: its first fault has this kind, and is at this place.
 pub record IsFaulty (p : System) (text : List ℕ) (k : Kind) (at : ℕ) : Type 0 where
@@ -52,6 +53,7 @@ abbrev pub IsUnnamed : System → Query → FormulaFault → Type 0
 IsUnnamed p (safety label) fault = (number_of label p.locations ≡ None) × (fault ≡ faults.UnknownName 0)
 IsUnnamed p termination fault = ⊥
 IsUnnamed p (ctl text) fault = IsNoFormula p text fault
+IsUnnamed p (finitely text) fault = IsNoFormula p text fault
 
 -- P, unless memory runs out
 abbrev pub UnlessMemory : FormulaFault → Type 0 → Type 0

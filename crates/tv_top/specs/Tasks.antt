@@ -18,6 +18,8 @@ pub data Query : Type 0 where
   termination : Query
   -- the formula with this text
   ctl : Text → Query
+  -- on every run the formula with this text, which is one of states, holds only finitely often
+  finitely : Text → Query
 
 -- how far a search goes
 pub record Limits : Type 0 where
@@ -77,7 +79,7 @@ limit_of most usual (Some word) = number_within most word
 abbrev pub is_given : Text → List Row → Bool
 is_given name rows = option_map_or (λ value. bytes_eq value (codes "true")) (first_of name rows) false
 
--- the one property that is named, where the program is read
+-- the one property that is named by termination, safety or a formula over runs
 abbrev pub query_named : Bool → Option Text → Option Text → Option Query
 query_named true None None = Some termination
 query_named false (Some label) None = Some (safety label)
@@ -87,22 +89,31 @@ query_named true (Some label) formula = None
 query_named false None None = None
 query_named false (Some label) (Some text) = None
 
--- where no property is named
+-- where no property is named so
 abbrev pub unless_named : Bool → Option Text → Option Text → Option Query → Option Query
 unless_named true label formula query = None
 unless_named false (Some label) formula query = None
 unless_named false None (Some text) query = None
 unless_named false None None query = query
 
+-- the one property that is named, where the program is read
+abbrev pub query_read : Bool → Option Text → Option Text → Option Text → Option Query
+query_read terminates label formula None = query_named terminates label formula
+query_read terminates label formula (Some visited) = unless_named terminates label formula (Some (finitely visited))
+
 -- of a program that is made it is asked whether every run ends
-abbrev pub query_of_made : Option Text → Bool → Option Text → Option Text → Option Query
-query_of_made None terminates label formula = query_named terminates label formula
-query_of_made (Some loops) terminates label formula = unless_named terminates label formula (Some termination)
+abbrev pub query_made : Bool → Option Text → Option Text → Option Text → Option Query
+query_made terminates label formula None = unless_named terminates label formula (Some termination)
+query_made terminates label formula (Some visited) = None
+
+abbrev pub query_of_made : Option Text → Bool → Option Text → Option Text → Option Text → Option Query
+query_of_made None terminates label formula visited = query_read terminates label formula visited
+query_of_made (Some loops) terminates label formula visited = query_made terminates label formula visited
 
 abbrev pub query_in : List Row → Option Query
 query_in rows =
     query_of_made (first_of (codes "generate") rows) (is_given (codes "termination") rows) (first_of (codes "safety") rows)
-    (first_of (codes "ctl") rows)
+    (first_of (codes "ctl") rows) (first_of (codes "finitely") rows)
 
 -- what is written after the verdict: a certificate, states, or of a program that is made, numbers alone
 abbrev pub wanted_of : Bool → Option Text → Option Text → Option Wanted
@@ -125,18 +136,27 @@ limits_in rows =
     })) (limit_of 4096 256 (first_of (codes "disjuncts") rows))) (limit_of 128 64 (first_of (codes "splits") rows)))
     (limit_of 1000000 100000 (first_of (codes "pivots") rows))
 
+-- certificates are of formulas, and so not of what holds only finitely often
+abbrev pub has_certificates : Query → Bool
+has_certificates termination = true
+has_certificates (safety label) = true
+has_certificates (ctl text) = true
+has_certificates (finitely text) = false
+
 -- states are written only where it is asked whether every run ends
 abbrev pub is_answerable : Wanted → Query → Bool
 is_answerable (its_trace states) termination = true
 is_answerable (its_trace states) (safety label) = false
 is_answerable (its_trace states) (ctl text) = false
+is_answerable (its_trace states) (finitely text) = false
 is_answerable nothing_more query = true
-is_answerable its_text query = true
-is_answerable (its_counts loops) query = true
+is_answerable its_text query = has_certificates query
+is_answerable (its_counts loops) query = has_certificates query
 
 -- where a certificate is to be checked, nothing is written after the verdict
 abbrev pub task_checked : Wanted → Query → Limits → Option Task
-task_checked nothing_more query limits = Some (record { query = query; checks = true; wanted = nothing_more; limits = limits })
+task_checked nothing_more query limits =
+    if has_certificates query then Some (record { query = query; checks = true; wanted = nothing_more; limits = limits }) else None
 task_checked its_text query limits = None
 task_checked (its_counts loops) query limits = None
 task_checked (its_trace states) query limits = None

@@ -4,12 +4,13 @@ use Rattle.tv_top.specs.declared.limits.Limits.{Limits as Given}
 use Rattle.tv_top.specs.declared.task.Task.{Task as Asked}
 use Rattle.tv_top.specs.declared.wanted.Wanted.{Wanted as ToWrite}
 use Rattle.tv_top.specs.declared.wanted.Wanted.TheVariants as written
-use Rattle.tv_top.specs.Tasks.{Query, safety, termination, ctl, Limits, Wanted, nothing_more, its_text, its_counts, its_trace, Task}
+use Rattle.tv_top.specs.Tasks.{Query, safety, termination, ctl, finitely, Limits, Wanted, nothing_more, its_text, its_counts, its_trace, Task}
 
 abbrev pub query_of : Question → Query
 query_of (questions.Safety label) = safety label.now
 query_of questions.Termination = termination
 query_of (questions.Ctl text) = ctl text.now
+query_of (questions.Finitely text) = finitely text.now
 
 abbrev pub limits_of : Given → Limits
 limits_of l = record { pivots = l.pivots; splits = l.splits; disjuncts = l.disjuncts }

@@ -1,12 +1,14 @@
 ghost use Rattle.std.specs.Prelude.{◌≡◌, ◌++◌, ◌∷◌, [], IfOk, decimal, string_bytes};
-ghost use Rattle.tv_top.specs.Answers.{kind_word, obligation_line, what_word, placed_line, too_many_line, program_line, counted_line, processes_line, text_line, column_line, property_line, plain_line, lines_of, status_of};
+ghost use Rattle.tv_top.specs.Answers.{kind_word, obligation_line, what_word, placed_line, too_many_line, program_line, counted_line, processes_line, text_line, column_line, property_line, doubled_line, condition_line, plain_line, lines_of, status_of};
 
 use crate::assignment::Assignment;
 use crate::cause::Cause;
 use crate::status::Status;
 use itoa::Buffer;
 use std::alloc::{AllocError, Global};
+use tv_cases::CaseFault;
 use tv_cert::{Failing, Kind};
+use tv_finitely::SplitFault;
 use tv_formula_reader::FormulaFault;
 use tv_interleave::{InterFault, TextFault};
 use tv_reader::{ReadFault, What};
@@ -30,6 +32,8 @@ pub enum Answer {
     Text(TextFault),
     /// The words name no property of the program.
     Property(FormulaFault),
+    /// The program is not split by the property of states that the words name.
+    Condition(SplitFault),
     /// A number of the linear form of an edge is too wide.
     WideEdge(u32),
     /// With an edge there are too many linear cases.
@@ -184,6 +188,30 @@ fn property_refusal(alloc: Global, fault: FormulaFault) -> Result<String, AllocE
     }
 }
 
+/// A refusal of the property of states for an edge of the program with two copies of each edge.
+fn doubled_refusal(alloc: Global, fault: CaseFault) -> Result<String, AllocError>
+    ensures { IfOk result (λ line. string_bytes line ≡ doubled_line fault) }
+{
+    match fault {
+        CaseFault::Wide { edge } => numbered(alloc, "Refused property cases edge ", edge / 2),
+        CaseFault::TooMany { edge } => numbered(alloc, "Refused property cases edge ", edge / 2),
+        CaseFault::Memory => Ok(String::new(alloc)),
+    }
+}
+
+/// A refusal of the property of states by which the program was to be split.
+fn condition_refusal(alloc: Global, fault: SplitFault) -> Result<String, AllocError>
+    ensures { IfOk result (λ line. string_bytes line ≡ condition_line fault) }
+{
+    match fault {
+        SplitFault::Temporal => format!(in alloc; "Refused property temporal\n"),
+        SplitFault::Edges { count } => numbered(alloc, "Refused property edges ", count),
+        SplitFault::Deep => format!(in alloc; "Refused property deep\n"),
+        SplitFault::Case { fault } => doubled_refusal(alloc, fault),
+        SplitFault::Memory => Ok(String::new(alloc)),
+    }
+}
+
 impl Answer {
     /// The first line that is written, if any.
     fn plain_line(&self, alloc: Global) -> Result<String, AllocError>
@@ -203,6 +231,7 @@ impl Answer {
             Answer::TooLong => format!(in alloc; "Refused text too long\n"),
             Answer::Text(fault) => text_refusal(alloc, *fault),
             Answer::Property(fault) => property_refusal(alloc, *fault),
+            Answer::Condition(fault) => condition_refusal(alloc, *fault),
             Answer::WideEdge(edge) => numbered(alloc, "Refused text wide edge ", *edge),
             Answer::TooManyInEdge(edge) => numbered(alloc, "Refused text too many edge ", *edge),
             Answer::Unknown(cause) => cause.line(alloc),

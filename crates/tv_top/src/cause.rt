@@ -1,13 +1,13 @@
+use crate::named_system::NamedSystem;
 use crate::system_fault::SystemFault;
 use tv_farkas::Branch;
-use tv_rank::Name;
 
 /// Why it is not known whether the property holds.
 #[derive(Drop)]
 pub enum Cause {
     /// A linear system of the search was not settled.
     Unsolved {
-        system: Name,
+        system: NamedSystem,
         fault: SystemFault,
     },
     /// Whether rows have an integer point was not settled by the splits on this path.

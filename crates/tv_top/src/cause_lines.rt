@@ -2,17 +2,18 @@
 
 ghost use Rattle.std.specs.Prelude.{◌≡◌, ◌++◌, ◌∷◌, [], IfOk, OnOk, map, decimal, string_bytes};
 ghost use Rattle.std.specs.Fmt.{signed_decimal};
-ghost use Rattle.tv_top.specs.CauseLines.{system_words, unsolved_line, numbered_detail, two_numbers_detail, system_line, spaced, point_line, count_line, cause_line, detail_line};
+ghost use Rattle.tv_top.specs.CauseLines.{searched_words, system_words, unsolved_line, numbered_detail, two_numbers_detail, system_line, spaced, point_line, count_line, cause_line, detail_line};
 
 use crate::cause::Cause;
+use crate::named_system::NamedSystem;
 use crate::system_fault::SystemFault;
 use itoa::Buffer;
 use std::alloc::{AllocError, Global};
 use tv_rank::Name;
 
-/// The words that name a system.
-fn system_words(alloc: Global, system: &Name) -> Result<String, AllocError>
-    ensures { IfOk result (λ text. string_bytes text ≡ system_words system.now) }
+/// The words that name a system of the search for ranks, or of a question of integer points.
+fn searched_words(alloc: Global, system: &Name) -> Result<String, AllocError>
+    ensures { IfOk result (λ text. string_bytes text ≡ searched_words system.now) }
 {
     let mut first = Buffer::new();
     let mut second = Buffer::new();
@@ -39,6 +40,26 @@ fn system_words(alloc: Global, system: &Name) -> Result<String, AllocError>
         Name::Later { set, .. } => {
             let count = first.format(set.len());
             format!(in alloc; "later {count}")
+        }
+    }
+}
+
+/// The words that name a system.
+fn system_words(alloc: Global, system: &NamedSystem) -> Result<String, AllocError>
+    ensures { IfOk result (λ text. string_bytes text ≡ system_words system.now) }
+{
+    let mut first = Buffer::new();
+    let mut second = Buffer::new();
+    match system {
+        NamedSystem::Searched(system) => searched_words(alloc, system),
+        NamedSystem::Nested { component, depth } => {
+            let component = first.format(*component);
+            let depth = second.format(*depth);
+            format!(in alloc; "nest {component} {depth}")
+        }
+        NamedSystem::Visited(system) => {
+            let words = searched_words(alloc, system)?;
+            format!(in alloc; "visits {words}")
         }
     }
 }
@@ -87,7 +108,7 @@ fn unsolved_line(alloc: Global, fault: &SystemFault) -> Result<String, AllocErro
 }
 
 /// The line that says which system it is, and where or how it was not settled.
-fn system_line(alloc: Global, system: &Name, fault: &SystemFault) -> Result<String, AllocError>
+fn system_line(alloc: Global, system: &NamedSystem, fault: &SystemFault) -> Result<String, AllocError>
     ensures { IfOk result (λ text. string_bytes text ≡ system_line system.now fault.now) }
 {
     let words = system_words(alloc, system)?;

@@ -46,6 +46,7 @@ fn with_tasks<'a>(alloc: Global, command: Command<'a>) -> Result<Command<'a>, Al
     let command = with_flag(alloc, command, "termination")?;
     let command = with_option(alloc, command, "safety")?;
     let command = with_option(alloc, command, "ctl")?;
+    let command = with_option(alloc, command, "finitely")?;
     with_option(alloc, command, "generate")
 }
 

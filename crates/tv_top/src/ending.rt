@@ -9,34 +9,20 @@ ghost use Rattle.tv_cert.specs.Claims.{IsClaim};
 ghost use Rattle.tv_points.specs.Nodes.{endless};
 ghost use Rattle.tv_recur.specs.Recurring.{IsRecurrence};
 ghost use Rattle.tv_settling.specs.Ends.{IsStuckAlone};
-ghost use Rattle.tv_top.specs.Answers.{ended};
 ghost use Rattle.tv_top.specs.Finding.{budget_of, offers_of, IsOpenEnd, Settles};
 ghost use Rattle.tv_top.specs.Searching.{IsOfOne, Answers};
 ghost use Rattle.tv_top.specs.Views.{wanted_view, task_view};
 
 use crate::answer::Answer;
-use crate::cause::Cause;
 use crate::finding::{budget_of, told, uncovered};
 use crate::further::{looked_at, or_looked};
+use crate::nesting::ended;
 use crate::search::Search;
-use crate::system_fault::unsolved;
 use std::alloc::Global;
 use tv_farkas::Budget;
 use tv_propose::Proposer;
 use tv_recur::{Recurrence, recur, recurrence_certificate};
-use tv_settling::{EndFault, first_end, found_end};
-
-/// The answer where it is not known whether every run ends.
-fn ended(fault: EndFault) -> Answer
-    ensures { result ≡ ended fault }
-{
-    match fault {
-        EndFault::Solve { system, fault } => unsolved(system, fault),
-        EndFault::Cover { fault } => uncovered(fault),
-        EndFault::Rank { set, barriers } => Answer::Unknown(Cause::Unranked { set, barriers }),
-        EndFault::Memory => Answer::Memory,
-    }
-}
+use tv_settling::{first_end, found_end};
 
 /// The answer to whether every run ends, under rows that are found.
 fn ends_under_rows(
@@ -55,7 +41,7 @@ fn ends_under_rows(
 {
     match found_end(alloc, search.about, search.claim, proposers, budget) {
         Ok(certificate) => told(alloc, search, certificate),
-        Err(fault) => ended(fault),
+        Err(fault) => ended(alloc, search, budget, fault),
     }
 }
 
@@ -128,6 +114,9 @@ pub(crate) fn ends(alloc: Global, search: &Search, proposers: &mut Vec<Box<dyn P
     match first_end(alloc, search.about, search.claim, &budget) {
         Ok(Some(certificate)) => told(alloc, search, certificate),
         Ok(None) => ends_unranked(alloc, search, proposers, &budget),
-        Err(fault) => or_looked(alloc, search, ended(fault)),
+        Err(fault) => {
+            let answer = ended(alloc, search, &budget, fault);
+            or_looked(alloc, search, answer)
+        }
     }
 }

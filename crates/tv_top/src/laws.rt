@@ -1,7 +1,7 @@
 // What some forms of words ask for, carried by functions that do nothing.
 
 ghost use Rattle.std.specs.Prelude.{◌≡◌, ◌∷◌, [], codes, false, true, Some, None};
-ghost use Rattle.tv_top.specs.Tasks.{safety, termination, ctl, nothing_more, its_text, its_counts, its_trace, task_of};
+ghost use Rattle.tv_top.specs.Tasks.{safety, termination, ctl, finitely, nothing_more, its_text, its_counts, its_trace, task_of};
 ghost use Rattle.tv_top.specs.Forms.{asks, usual, limits};
 
 /// Forms of words, and what they ask for.
@@ -9,6 +9,7 @@ pub fn listed_words()
     ensures termination { task_of (codes "--termination" ∷ []) ≡ Some (asks termination false nothing_more usual) }
     ensures safety { task_of (codes "--safety" ∷ codes "2" ∷ []) ≡ Some (asks (safety (codes "2")) false nothing_more usual) }
     ensures joined { task_of (codes "--ctl=-x > 0" ∷ []) ≡ Some (asks (ctl (codes "-x > 0")) false nothing_more usual) }
+    ensures visited { task_of (codes "--finitely" ∷ codes "x > 0" ∷ []) ≡ Some (asks (finitely (codes "x > 0")) false nothing_more usual) }
     ensures written { task_of (codes "--termination" ∷ codes "--certificate" ∷ []) ≡ Some (asks termination false its_text usual) }
     ensures checked { task_of (codes "--check" ∷ codes "--ctl" ∷ codes "term" ∷ []) ≡ Some (asks (ctl (codes "term")) true nothing_more usual) }
     ensures behind { task_of (codes "--termination" ∷ codes "--check" ∷ []) ≡ Some (asks termination true nothing_more usual) }
@@ -41,5 +42,10 @@ pub fn refused_words()
     ensures traced_and_written { task_of (codes "--termination" ∷ codes "--trace" ∷ codes "3" ∷ codes "--certificate" ∷ []) ≡ None }
     ensures traced_formula { task_of (codes "--ctl" ∷ codes "term" ∷ codes "--trace" ∷ codes "3" ∷ []) ≡ None }
     ensures traced_and_made { task_of (codes "--generate" ∷ codes "3" ∷ codes "--trace" ∷ codes "3" ∷ []) ≡ None }
+    ensures visited_and_checked { task_of (codes "--finitely" ∷ codes "x > 0" ∷ codes "--check" ∷ []) ≡ None }
+    ensures visited_and_written { task_of (codes "--finitely" ∷ codes "x > 0" ∷ codes "--certificate" ∷ []) ≡ None }
+    ensures visited_and_traced { task_of (codes "--finitely" ∷ codes "x > 0" ∷ codes "--trace" ∷ codes "3" ∷ []) ≡ None }
+    ensures visited_and_made { task_of (codes "--generate" ∷ codes "3" ∷ codes "--finitely" ∷ codes "x > 0" ∷ []) ≡ None }
+    ensures visited_and_named { task_of (codes "--finitely" ∷ codes "x > 0" ∷ codes "--termination" ∷ []) ≡ None }
     ensures help { task_of (codes "--help" ∷ []) ≡ None }
 {}

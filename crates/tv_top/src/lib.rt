@@ -15,6 +15,8 @@ mod further;
 mod laws;
 mod limits;
 mod making;
+mod named_system;
+mod nesting;
 mod numbers;
 mod paths;
 mod property;
@@ -25,6 +27,7 @@ mod status;
 mod system_fault;
 mod task;
 mod tracing;
+mod visiting;
 mod wanted;
 
 pub use laws::{listed_words, refused_words};

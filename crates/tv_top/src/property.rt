@@ -2,9 +2,9 @@ ghost use Rattle.std.specs.Prelude.{◌≡◌, IfOk, IfErr, length};
 ghost use Rattle.tv_program.specs.Programs.{system_of};
 ghost use Rattle.tv_formula.specs.Formulas.{property_of, variables_of};
 ghost use Rattle.tv_formula.specs.Parts.{HasParts};
-ghost use Rattle.tv_top.specs.Tasks.{safety, ctl};
+ghost use Rattle.tv_top.specs.Tasks.{safety};
 ghost use Rattle.tv_top.specs.Views.{query_of};
-ghost use Rattle.tv_top.specs.Properties.{IsNamed, IsUnnamed, UnlessMemory};
+ghost use Rattle.tv_top.specs.Properties.{IsGivenFormula, IsNamed, IsNoFormula, IsUnnamed, UnlessMemory};
 
 use crate::task::Question;
 use std::alloc::Global;
@@ -33,8 +33,8 @@ fn safety(alloc: Global, label: &str, program: &Program) -> Result<Formula, Form
 
 /// The formula with this text.
 fn formula(alloc: Global, text: &str, program: &Program) -> Result<Formula, FormulaFault>
-    ensures named { IfOk result (λ f. IsNamed (system_of program.now) (ctl text.now) (property_of f)) }
-    ensures unnamed { IfErr result (λ fault. UnlessMemory fault (IsUnnamed (system_of program.now) (ctl text.now) fault)) }
+    ensures named { IfOk result (λ f. IsGivenFormula (system_of program.now) text.now (property_of f)) }
+    ensures unnamed { IfErr result (λ fault. UnlessMemory fault (IsNoFormula (system_of program.now) text.now fault)) }
     ensures parts { IfOk result (λ f. HasParts (property_of f)) }
     ensures variables { IfOk result (λ f. variables_of f ≡ length (system_of program.now).variables) }
 {
@@ -44,7 +44,7 @@ fn formula(alloc: Global, text: &str, program: &Program) -> Result<Formula, Form
     read_formula(alloc, text.as_bytes(), program)
 }
 
-/// The property that is asked about, over the words of the program.
+/// The formula that is asked about, over the words of the program.
 pub fn property(
     alloc: Global,
     question: Question,
@@ -61,6 +61,6 @@ pub fn property(
             let property = termination(alloc, program)?;
             Ok(property)
         }
-        Question::Ctl(text) => formula(alloc, text, program),
+        Question::Ctl(text) | Question::Finitely(text) => formula(alloc, text, program),
     }
 }

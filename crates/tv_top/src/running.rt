@@ -13,7 +13,8 @@ use crate::finding::find;
 use crate::making::generated;
 use crate::property::property;
 use crate::status::Status;
-use crate::task::Task;
+use crate::task::{Task, has_certificates};
+use crate::visiting::visited;
 use crate::wanted::{Loops, Wanted};
 use std::alloc::Global;
 use tv_cases::{CaseFault, cases};
@@ -82,6 +83,9 @@ fn decide(
         Ok(property) => property,
         Err(fault) => return without_property(fault),
     };
+    if !has_certificates(task.question) {
+        return visited(alloc, task, &program, &property, proposers);
+    }
     let about = match cases(alloc, &program) {
         Ok(about) => about,
         Err(fault) => return without_cases(fault),

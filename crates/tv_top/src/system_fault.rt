@@ -1,10 +1,11 @@
 // Why a linear system was not settled, and the answer that says so.
 
 ghost use Rattle.std.specs.Prelude.{◌≡◌};
-ghost use Rattle.tv_top.specs.Answers.{unsolved};
+ghost use Rattle.tv_top.specs.Answers.{unsolved, unsettled};
 
 use crate::answer::Answer;
 use crate::cause::Cause;
+use crate::named_system::NamedSystem;
 use tv_rank::Name;
 use tv_simplex::SolveFault;
 
@@ -33,8 +34,8 @@ pub enum SystemFault {
 }
 
 /// The answer where a linear system was not settled.
-pub(crate) fn unsolved(system: Name, fault: SolveFault) -> Answer
-    ensures { result ≡ unsolved system fault }
+pub(crate) fn unsettled(system: NamedSystem, fault: SolveFault) -> Answer
+    ensures { result ≡ unsettled system fault }
 {
     match fault {
         SolveFault::Width { basis, row, column } => Answer::Unknown(Cause::Unsolved {
@@ -55,4 +56,11 @@ pub(crate) fn unsolved(system: Name, fault: SolveFault) -> Answer
         }),
         SolveFault::Memory => Answer::Memory,
     }
+}
+
+/// The answer where a system of the search for ranks, or of a question of integer points, was not settled.
+pub(crate) fn unsolved(system: Name, fault: SolveFault) -> Answer
+    ensures { result ≡ unsolved system fault }
+{
+    unsettled(NamedSystem::Searched(system), fault)
 }

@@ -1,7 +1,7 @@
 ghost use Rattle.std.specs.Prelude.{◌≡◌, ◌↔◌, IfOk, IsTrue, map, option_map};
 ghost use Rattle.clap.specs.Walk.{first_of, rows_of};
 ghost use Rattle.clap.specs.Matches.{found_of};
-ghost use Rattle.tv_top.specs.Tasks.{is_given, query_named, query_in, limits_in, nothing_more, wanted_in, is_answerable, task_in, task_of};
+ghost use Rattle.tv_top.specs.Tasks.{is_given, query_named, query_read, query_made, query_in, limits_in, nothing_more, wanted_in, has_certificates, is_answerable, task_in, task_of};
 ghost use Rattle.tv_top.specs.Views.{query_of, limits_of, wanted_view, task_view};
 
 use crate::command::command;
@@ -21,6 +21,8 @@ pub enum Question<'a> {
     Termination,
     /// The formula with this text.
     Ctl(&'a str),
+    /// On every run the formula with this text, which is one of states, holds only finitely often.
+    Finitely(&'a str),
 }
 
 /// What the words ask for.
@@ -50,7 +52,7 @@ fn is_given(matches: &ArgMatches, name: &str) -> bool
     }
 }
 
-/// The one property that is named, where the program is read.
+/// The one property that is named by termination, safety or a formula over runs.
 fn question_named<'a>(
     termination: bool,
     safety: Option<&'a str>,
@@ -86,6 +88,46 @@ fn question_named<'a>(
     }
 }
 
+/// The one property that is named, where the program is read.
+fn question_read<'a>(
+    termination: bool,
+    safety: Option<&'a str>,
+    formula: Option<&'a str>,
+    visited: Option<&'a str>,
+) -> Option<Question<'a>>
+    ensures { let label = option_map (λ value. value.now) safety.entry in
+        let text = option_map (λ value. value.now) formula.entry in
+        option_map query_of result ≡ query_read termination label text (option_map (λ value. value.now) visited.entry) }
+{
+    match visited {
+        None => question_named(termination, safety, formula),
+        Some(visited) => match (termination, safety, formula) {
+            (false, None, None) => Some(Question::Finitely(visited)),
+            _ => None,
+        },
+    }
+}
+
+/// That every run ends, where no property is named.
+fn question_made<'a>(
+    termination: bool,
+    safety: Option<&'a str>,
+    formula: Option<&'a str>,
+    visited: Option<&'a str>,
+) -> Option<Question<'a>>
+    ensures { let label = option_map (λ value. value.now) safety.entry in
+        let text = option_map (λ value. value.now) formula.entry in
+        option_map query_of result ≡ query_made termination label text (option_map (λ value. value.now) visited.entry) }
+{
+    match visited {
+        None => match (termination, safety, formula) {
+            (false, None, None) => Some(Question::Termination),
+            _ => None,
+        },
+        Some(_) => None,
+    }
+}
+
 /// The one property that is named: of a program that is made it is asked whether every run ends.
 fn question_in<'a>(matches: &ArgMatches<'a>) -> Option<Question<'a>>
     ensures { option_map query_of result ≡ query_in (rows_of (found_of matches.now)) }
@@ -93,12 +135,10 @@ fn question_in<'a>(matches: &ArgMatches<'a>) -> Option<Question<'a>>
     let termination = is_given(matches, "termination");
     let safety = value_of(matches, "safety");
     let formula = value_of(matches, "ctl");
+    let visited = value_of(matches, "finitely");
     match value_of(matches, "generate") {
-        None => question_named(termination, safety, formula),
-        Some(_) => match (termination, safety, formula) {
-            (false, None, None) => Some(Question::Termination),
-            _ => None,
-        },
+        None => question_read(termination, safety, formula, visited),
+        Some(_) => question_made(termination, safety, formula, visited),
     }
 }
 
@@ -157,15 +197,28 @@ fn is_nothing(wanted: Wanted) -> bool
     }
 }
 
-/// Whether this can be written after the answer to the question: states only where it is asked whether every run ends.
+/// Whether certificates are of what is asked: they are of formulas, and so not of what holds only finitely often.
+pub(crate) fn has_certificates(question: Question) -> bool
+    ensures { result ≡ has_certificates (query_of question.entry) }
+{
+    match question {
+        Question::Safety(_) | Question::Termination | Question::Ctl(_) => true,
+        Question::Finitely(_) => false,
+    }
+}
+
+/// Whether this can be written after the answer to the question: states only where it is asked whether every run ends, and certificates only
+/// where there are any.
 fn is_answerable(wanted: Wanted, question: Question) -> bool
     ensures { result ≡ is_answerable (wanted_view wanted) (query_of question.entry) }
 {
-    match (wanted, question) {
-        (Wanted::Trace { count: _ }, Question::Safety(_)) => false,
-        (Wanted::Trace { count: _ }, Question::Ctl(_)) => false,
-        (Wanted::Trace { count: _ }, Question::Termination) => true,
-        (_, _) => true,
+    match wanted {
+        Wanted::Nothing => true,
+        Wanted::Certificate | Wanted::Counts(_) => has_certificates(question),
+        Wanted::Trace { count: _ } => match question {
+            Question::Termination => true,
+            _ => false,
+        },
     }
 }
 
@@ -177,7 +230,7 @@ fn task_in<'a>(matches: &ArgMatches<'a>) -> Option<Task<'a>>
     let limits = limits_in(matches)?;
     let wanted = wanted_in(matches)?;
     let checks = is_given(matches, "check");
-    if checks && !is_nothing(wanted) {
+    if checks && !(is_nothing(wanted) && has_certificates(question)) {
         return None;
     }
     if !is_answerable(wanted, question) {

@@ -1,13 +1,10 @@
-use Rattle.std.proofs.Common.{◌≡◌, ◌∙◌, sym, subst}
 use Rattle.tv_program.specs.Programs.{system_of}
-use Rattle.tv_formula.specs.Normal.{normal}
-use Rattle.tv_formula.specs.Properties.{term}
 use Rattle.tv_cases.specs.Systems.{cases_of}
 use Rattle.tv_invariant.specs.Asking.{Gave}
 use Rattle.tv_settling.specs.Ends.{IsFirstFault}
-use Rattle.tv_top.specs.Finding.{Offers, Finds}
+use Rattle.tv_top.specs.Finding.{Offers, Finds, alone}
 use Rattle.tv_top.specs.Views.{task_view}
-use Rattle.tv_top.proofs.Found.{settles_found, first_so, further_so}
+use Rattle.tv_top.proofs.Found.{settles_found, further_so}
 use Rattle.tv_top.proofs.ending.ends.Goals as goal
 
 pub returns-in-Ok-Some : goal.returns-in-Ok-Some
@@ -22,9 +19,7 @@ returns-in-Err g c = λ f is.
     let task = task_view search.task.now in
     let p = system_of search.program.now in
     let about = cases_of search.about.now in
-    let n : normal f ≡ term = sym is.proved ∙ c.requires.ends in
     let offers : Offers = λ about. Gave (λ p. (goal.Proposer-dyn g (p.vtable, p.value)).rest p.value about) c.args.proposers.now.items in
-    let before : Finds offers task p f about c.ended.result =
-    subst (λ answer. Finds offers task p f about answer) (sym c.ended.ensures)
-    (first_so offers task p f about n c.in-Err.fault (subst (λ b. IsFirstFault about b c.in-Err.fault) c.budget_of-budget.ensures.exact c.in-Err.ensures.refusals)) in
-    further_so offers task p f about c.ended.result c.or_looked.result before (c.or_looked.ensures f is)
+    let refused : IsFirstFault about (c.budget_of-budget.result) c.in-Err.fault = c.in-Err.ensures.refusals in
+    let before : Finds offers task p f about c.ended-answer.result = c.ended-answer.ensures offers (alone refused) f is in
+    further_so offers task p f about c.ended-answer.result c.or_looked.result before (c.or_looked.ensures f is)
