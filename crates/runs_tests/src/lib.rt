@@ -36,4 +36,6 @@ mod texts;
 #[cfg(test)]
 mod traces;
 #[cfg(test)]
+mod visits;
+#[cfg(test)]
 mod words;
