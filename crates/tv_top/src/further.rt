@@ -11,6 +11,7 @@ use crate::answer::Answer;
 use crate::cause::Cause;
 use crate::finding::{budget_of, is_termination, told};
 use crate::limits::{USUAL_PIECES, USUAL_PIVOTS, USUAL_SPLITS};
+use crate::named_system::NamedSystem;
 use crate::search::Search;
 use crate::system_fault::SystemFault;
 use crate::wanted::Wanted;
@@ -63,16 +64,19 @@ pub(crate) fn or_looked(alloc: Global, search: &Search, answer: Answer) -> Answe
 }
 
 /// Whether the system is one of the search for ranks of a whole program without known rows.
-fn is_of_ranks(system: &Name) -> bool {
+fn is_of_ranks(system: &NamedSystem) -> bool {
     match system {
-        Name::Empty(_) => true,
-        Name::Rank {
+        NamedSystem::Searched(Name::Empty(_)) => true,
+        NamedSystem::Searched(Name::Rank {
             component: _,
             round: _,
             falling: _,
+        }) => true,
+        NamedSystem::Nested {
+            component: _,
+            depth: _,
         } => true,
-        Name::Rows(_) => false,
-        Name::Later { set: _, falling: _ } => false,
+        NamedSystem::Searched(_) | NamedSystem::Visited(_) => false,
     }
 }
 
