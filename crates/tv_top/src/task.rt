@@ -166,8 +166,8 @@ fn wanted_in(matches: &ArgMatches) -> Option<Wanted>
             if writes {
                 return None;
             }
-            let count = number_within(word, 1000)?;
-            Some(Wanted::Counts(Loops { count }))
+            let loops = number_within(word, 1000)?;
+            Some(Wanted::Counts(Loops { count: loops }))
         }
         (Some(_), Some(_)) => None,
     }
