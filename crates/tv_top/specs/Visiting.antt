@@ -10,7 +10,7 @@ use Rattle.tv_farkas.specs.declared.fault.CoverFault.TheVariants as covers
 use Rattle.tv_rank.specs.declared.name.Name.TheVariants.{Rows}
 use Rattle.tv_finitely.specs.Finite.{HoldsFinitely}
 use Rattle.tv_finitely.specs.Obligations.{VisitParts, visit_entries}
-use Rattle.tv_finitely.specs.Proving.{RefusesVisits}
+use Rattle.tv_finitely.specs.Refusals.{RefusesFinitely}
 use Rattle.tv_finitely.specs.Shapes.{VisitShape}
 use Rattle.tv_finitely.specs.Splits.{SplitSystem, IsSplitOf, IsSplitFault}
 use Rattle.tv_finitely.specs.declared.fault.VisitFault.{VisitFault}
@@ -54,7 +54,7 @@ pub record IsUnshownFinitely (offers : Offers) (task : Task) (p : System) (f : P
   pub split : SplitSystem
   pub is_split : IsSplitOf p f split
   pub fault : VisitFault
-  pub refused : RefusesVisits split (offers split.system) (budget_of task.limits) fault
+  pub refused : RefusesFinitely split (offers split.system) (budget_of task.limits) fault
   pub answered : Unknown cause ≡ unvisited fault
 
 -- what the answer says of the property
