@@ -69,7 +69,7 @@ def rank(asked: Asked, detail: list[str]) -> list[str]:
     if asked.is_finitely:
         return visits(told, one)
     return [
-        f"no linear term was found that falls over {'this case' if one else 'one of these cases'} of a loop and grows over {'none' if one else 'none of them'}, so it is not known whether the runs through {'it' if one else 'them'} end:",
+        f"no linear term was found that falls over {'this case' if one else 'one of these cases'} of a loop and grows over {'none' if one else 'none of them'}, and some loop has no 2 to 4 terms that fall one after another, so it is not known whether the runs through {'it' if one else 'them'} end:",
         *told,
         "try: an assumption at the loop that says what holds there, if it does; phases that follow one another as loops of their own",
     ]
