@@ -2,6 +2,7 @@
 from math import prod
 
 from t2.alternatives import alternatives, count, together
+from t2.copies import assumed
 from t2.formulas import normal, parsed, subformulas
 from t2.program import Edge, Program, read_program
 from t2.tokens import Fault
@@ -37,10 +38,28 @@ class Named:
         """The case with this number: its edge, where it begins, and what its guards compare."""
         for edge in self.program.edges:
             if number < ways(edge):
-                guards = together([alternatives(it, self.compared) for it in edge.assumptions()])[number]
-                where = ", where " + " and ".join(guards[:MOST_GUARDS]) + (" .." if len(guards) > MOST_GUARDS else "") if guards else ""
-                return f"{self.edge(edge)} in line {edge.line}{where}"
+                return self.way(edge, number)
             number -= ways(edge)
+        return ""
+
+    def way(self, edge: Edge, number: int) -> str:
+        """One of the cases of an edge."""
+        guards = together([alternatives(it, self.compared) for it in edge.assumptions()])[number]
+        where = ", where " + " and ".join(guards[:MOST_GUARDS]) + (" .." if len(guards) > MOST_GUARDS else "") if guards else ""
+        return f"{self.edge(edge)} in line {edge.line}{where}"
+
+    def copied_case(self, number: int, formula: str) -> str:
+        """The case with this number of the program with two copies of each edge, which is told apart by the formula."""
+        try:
+            asked = parsed(formula)
+            for edge in self.program.edges:
+                for is_first in (True, False):
+                    each = count(assumed(asked, self.program.labels[edge.target], is_first))
+                    if number < ways(edge) * each:
+                        return f"{self.way(edge, number // each)}; {'the formula holds after it' if is_first else 'the formula does not hold after it'}"
+                    number -= ways(edge) * each
+        except Fault:
+            pass
         return ""
 
 

@@ -30,6 +30,7 @@ TOGETHER = {
     "locations": "the product of the processes has {:,} locations, one for each choice of a location of each; there are at most 1,024",
     "edges": "the product of the processes has {:,} edges, each once for each choice of locations of the other processes; there are at most 4,096",
 }
+TOO_DEEP = "the formula, with a ! before it, has more than 400 parts one inside the other"
 STATUSES = {
     4: "standard input could not be read",
     5: "standard output could not be written",
@@ -90,14 +91,40 @@ def no_start(text: str) -> list[str]:
     return [f"nothing says where runs begin{of}: START: {first}; would have them begin at {first}"]
 
 
+def formula_of(words: list[str]) -> str:
+    """The formula of the words, if they have one."""
+    return option(words, "--ctl") or option(words, "--finitely")
+
+
 def refused_property(line: str, text: str, words: list[str]) -> list[str]:
-    formula, program = option(words, "--ctl"), Named(text).program
+    formula, named = formula_of(words), Named(text)
     if any(it.startswith("--safety") for it in words):
-        return faults.unknown(option(words, "--safety"), True, program)
+        return faults.unknown(option(words, "--safety"), True, named.program)
     place = re.fullmatch(r"Refused property (.+) column (\d+)", line)
     if place:
-        return faults.of_formula(place[1], int(place[2]), formula, program)
-    return ["the formula has more than 65,536 bytes"]
+        return faults.of_formula(place[1], int(place[2]), formula, named.program)
+    return refused_copies(line.removeprefix("Refused property "), text, named)
+
+
+def refused_copies(fault: str, text: str, named: Named) -> list[str]:
+    """What is at fault in a property without a place in its text: it is too long, or its program has no two copies of each edge."""
+    edges = re.fullmatch(r"edges (\d+)", fault)
+    if edges:
+        return [f"with two copies of each edge the program has {int(edges[1]):,} edges; there are at most 4,096", "leave out edges, or join two in a row to one"]
+    edge = re.fullmatch(r"cases edge (\d+)", fault)
+    if edge:
+        return refused_copy(int(edge[1]), text, named)
+    if fault == "temporal":
+        return ["the formula speaks of runs: with --finitely it is of one state, of comparisons, at(LABEL), !, && and ||", "a location or a variable may say what is meant: --finitely 'at(error)'"]
+    return [TOO_DEEP if fault == "deep" else "the formula has more than 65,536 bytes"]
+
+
+def refused_copy(number: int, text: str, named: Named) -> list[str]:
+    if number >= len(named.program.edges):
+        return []
+    edge = named.program.edges[number]
+    said = "with what is assumed after it, a number comes to 2^62 or more, or there are more than 8,192 ways to be taken in all, or 8,000,000 numbers"
+    return [f"line {edge.line}: {named.edge(edge)}: {said}", *faults.marked(text, edge.start, edge.line), "write it, or the formula, with smaller numbers, or with fewer || and !="]
 
 
 def refused_certificate(line: str, rest: str | None) -> list[str]:
@@ -132,7 +159,7 @@ def said(status: int, answer: str, text: str | None, words: list[str]) -> list[s
     if lines[0].startswith("Certificate refused"):
         return refused_certificate(lines[0], rest)
     if lines[0].startswith("Unknown"):
-        asked = unknowns.Asked(program, option(words, "--ctl"), words)
+        asked = unknowns.Asked(program, formula_of(words), words)
         return unknowns.explained(asked, lines)
     return of_status(status)
 

@@ -14,8 +14,13 @@ class Asked:
         self.named, self.formula, self.words = Named(text), formula, words
         self.program = self.named.program
 
+    @property
+    def is_finitely(self) -> bool:
+        return any(it.partition("=")[0] == "--finitely" for it in self.words)
+
     def case(self, number: int) -> str:
-        told = self.named.case(number)
+        """What a case is of. Where something is to come only finitely often, it is one of the program with two copies of each edge."""
+        told = self.named.copied_case(number, self.formula) if self.is_finitely else self.named.case(number)
         return f"case {number} ({told})" if told else f"case {number}"
 
     def part(self, number: int) -> str:
@@ -35,6 +40,10 @@ class Asked:
 
 def system(asked: Asked, words: list[str]) -> str:
     """What a linear system of the search is of."""
+    if words[0] == "visits":
+        return system(asked, words[1:])
+    if words[0] == "nest":
+        return f"whether {words[2]} terms that fall one after another rank the loop of component {words[1]}"
     if words[0] == "empty":
         return f"whether {asked.case(int(words[1]))} can be taken"
     if words[0] == "rank":
@@ -44,12 +53,23 @@ def system(asked: Asked, words: list[str]) -> str:
     return f"what follows from {words[1]} rows"
 
 
+def visits(told: list[str], one: bool) -> list[str]:
+    """The same where something is to come only finitely often."""
+    return [
+        f"no linear term was found that falls over {'this case' if one else 'one of these cases'} of a loop and grows over {'none' if one else 'none of them'}, so it is not known whether the formula comes to hold only finitely often there:",
+        *told,
+        "try: an assumption at the loop that says what bounds how often it comes, if something does; or a variable that counts what is left",
+    ]
+
+
 def rank(asked: Asked, detail: list[str]) -> list[str]:
     numbers = [int(it) for it in detail[1:]]
     told = [f"  {asked.case(it)}" for it in numbers[:MOST_CASES]] + (["  .."] if len(numbers) > MOST_CASES else [])
     one = len(numbers) == 1
+    if asked.is_finitely:
+        return visits(told, one)
     return [
-        f"no linear term was found that falls over {'this case' if one else 'one of these cases'} of a loop and grows over {'none' if one else 'none of them'}, so it is not known whether the runs through {'it' if one else 'them'} end:",
+        f"no linear term was found that falls over {'this case' if one else 'one of these cases'} of a loop and grows over {'none' if one else 'none of them'}, and some loop has no 2 to 4 terms that fall one after another, so it is not known whether the runs through {'it' if one else 'them'} end:",
         *told,
         "try: an assumption at the loop that says what holds there, if it does; phases that follow one another as loops of their own",
     ]

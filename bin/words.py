@@ -7,7 +7,7 @@ from faults import readable, similar
 
 WORDS = configparser.ConfigParser(interpolation=None, delimiters=("=",), comment_prefixes=("#",))
 HERE = os.path.dirname(os.path.realpath(__file__))
-QUESTIONS = ("--termination", "--safety", "--ctl", "--generate")
+QUESTIONS = ("--termination", "--safety", "--ctl", "--finitely", "--generate")
 
 
 def known() -> configparser.ConfigParser:
@@ -104,6 +104,8 @@ def of_all(seen: list[str]) -> str:
     for it in ("--check", "--certificate"):
         if it in seen and "--generate" in seen:
             return f"{it} does not go with --generate"
+        if it in seen and "--finitely" in seen:
+            return f"{it} does not go with --finitely, of which no certificates are written"
     if "--trace" in seen and "--termination" not in seen:
         return "--trace shows a run that never ends, so it goes with --termination alone"
     for it in ("--check", "--certificate"):

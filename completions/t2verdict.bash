@@ -3,10 +3,10 @@ _t2verdict() {
     local word=${COMP_WORDS[COMP_CWORD]} before=${COMP_WORDS[COMP_CWORD - 1]}
     COMPREPLY=()
     case $before in
-        --safety | --ctl | --generate | --trace | --pivots | --splits | --disjuncts | --timeout) return ;;
+        --safety | --ctl | --finitely | --generate | --trace | --pivots | --splits | --disjuncts | --timeout) return ;;
     esac
     case $word in
-        -*) mapfile -t COMPREPLY < <(compgen -W '--termination --safety --ctl --generate --certificate --check --trace --pivots --splits --disjuncts --timeout --prove --help --version' -- "$word") ;;
+        -*) mapfile -t COMPREPLY < <(compgen -W '--termination --safety --ctl --finitely --generate --certificate --check --trace --pivots --splits --disjuncts --timeout --prove --help --version' -- "$word") ;;
         *) mapfile -t COMPREPLY < <(compgen -f -- "$word") ;;
     esac
 }

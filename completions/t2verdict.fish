@@ -2,6 +2,7 @@
 complete -c t2verdict -l termination -d 'every run of the program ends'
 complete -c t2verdict -l safety -x -d 'no run comes to the location with this label'
 complete -c t2verdict -l ctl -x -d 'the formula holds at every initial state, as [AG](x >= 0)'
+complete -c t2verdict -l finitely -x -d 'on every run the formula, which is of one state, holds only finitely often, as at(retry)'
 complete -c t2verdict -l generate -x -d 'every run ends of a program of N loops that is made; nothing is read'
 complete -c t2verdict -l certificate -d 'write the certificate after the answer'
 complete -c t2verdict -l check -d 'check the certificate behind a line CERTIFICATE: in place of searching for one'

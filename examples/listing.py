@@ -1,6 +1,6 @@
 #!/usr/bin/env python3
 """Lists what the numbers in answers and certificates mean: the locations, edges and linear cases of a program in its own names, and the
-subformulas of a property.
+subformulas of a property. With `--finitely FORMULA` the edges and cases are those of the program with two copies of each edge.
 
 Status: 0, 2 where the words are wrong, 3 where the program or the property cannot be read."""
 import argparse
@@ -16,7 +16,7 @@ ABOUT = "Lists the locations, edges and linear cases of a program by their numbe
 
 
 def words() -> argparse.Namespace:
-    made = parser(ABOUT)
+    made = parser(ABOUT, has_copies=True)
     made.add_argument("program", metavar="PROGRAM", nargs="?", help="the program text; standard input where it is not given")
     return made.parse_args()
 

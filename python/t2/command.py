@@ -6,6 +6,7 @@ import sys
 from dataclasses import dataclass
 
 from t2.certificates import Certificate, read_certificate
+from t2.copies import doubled
 from t2.formulas import TERM, negation, never_at, normal, read_formula
 from t2.linear import Case, cases_of
 from t2.program import Program, read_program
@@ -35,13 +36,15 @@ class Parser(argparse.ArgumentParser):
         self.exit(USAGE, f"{self.prog}: {message} (--help tells the words)\n")
 
 
-def parser(about: str) -> argparse.ArgumentParser:
-    """The words of a command that reads a program and may be told the property."""
+def parser(about: str, has_copies: bool = False) -> argparse.ArgumentParser:
+    """The words of a command that reads a program and may be told the property, and with copies the one of which there are no certificates."""
     made = Parser(description=about, allow_abbrev=False)
     task = made.add_mutually_exclusive_group()
     task.add_argument("--termination", action="store_true", help="the property is that every run ends")
     task.add_argument("--safety", metavar="LABEL", help="the property is that no run comes to the location")
     task.add_argument("--ctl", metavar="FORMULA", help="the property is this formula")
+    if has_copies:
+        task.add_argument("--finitely", metavar="FORMULA", help="the program with two copies of each edge: one where this formula holds after it")
     return made
 
 
@@ -74,6 +77,14 @@ def named_property(args: argparse.Namespace, program: Program) -> Tree | None:
         raise Fault(f"--ctl: {fault}") from None
 
 
+def with_copies(word: str | None, program: Program) -> Program:
+    """The program with two copies of each edge, where a formula is given that tells them apart."""
+    try:
+        return program if word is None else doubled(program, read_formula(word, program))
+    except Fault as fault:
+        raise Fault(f"--finitely: {fault}") from None
+
+
 def given(args: argparse.Namespace, name: str | None) -> Given:
     """The program in a file and the property that the words name."""
     text = read_input(name)
@@ -81,6 +92,7 @@ def given(args: argparse.Namespace, name: str | None) -> Given:
         program = read_program(text)
     except Fault as fault:
         raise Fault(f"{name or 'standard input'}: {fault}") from None
+    program = with_copies(getattr(args, "finitely", None), program)
     formula = named_property(args, program)
     proved = None if formula is None else normal(formula)
     denied = None if formula is None else negation(formula)

@@ -58,8 +58,10 @@ def examples() -> list[tuple[str, list[str], Path, str]]:
     for line in (EXAMPLES / "README.md").read_text().split("\n"):
         cells = [cell.strip().replace(r"\|", "|") for cell in re.split(r"(?<!\\)\|", line)[1:-1]]
         if len(cells) == 5 and cells[4] in ("0", "1") and " < examples/" in cells[2]:
-            task = re.search(r"--termination|--safety \S+|--ctl (?:'[^']*'|\S+)", cells[2]).group(0)
-            words = [word.strip("'") for word in task.split(" ", 1)]
+            task = re.search(r"--termination|--safety \S+|--ctl (?:'[^']*'|\S+)", cells[2])
+            if task is None:  # of --finitely there are no certificates
+                continue
+            words = [word.strip("'") for word in task.group(0).split(" ", 1)]
             found.append((cells[2], words, TOP / cells[2].strip("`").rsplit(" < ", 1)[1], cells[3]))
     return found
 
