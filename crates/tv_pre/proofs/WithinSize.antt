@@ -108,7 +108,7 @@ module _ (about : CaseSystem) where
 
   -- ---- refusals
   formula_refused : (s : Statement) (budget : Budget) (asks : List Piece → Question → Type 0) (fault : RegionFault) (r : PreFault) → r ≡ faults.Region fault → IsRefusedWith about s budget asks r →
-      ((last : ℕ) → IsLastRound about 8 last → IsPreFault about s budget (steps_back last s) r) × IsCountedFor about s r
+      ((last : ℕ) → IsLastRound about 8 last → IsPreFault about s budget (steps_back last s) r) × ((last : ℕ) → IsLastRound about 8 last → IsCountedFor about budget last s r)
   formula_refused s budget asks fault _ e (of_formula r h c) = (h, c)
   formula_refused s budget asks fault _ e (of_start found cover is w) = absurd cc
 
@@ -117,7 +117,7 @@ module _ (about : CaseSystem) where
   of_size plain s budget asks m is g parts e l k h =
       let w = formula_refused s budget asks (regions.Disjuncts l k) (faults.Region (regions.Disjuncts l k)) refl h in
       let n = some_last m is in
-      (limit_less s budget (steps_back n.0 s) (regions.Disjuncts l k) l k refl (w.0 n.0 n.1).0, w.1 plain m is g parts e)
+      (limit_less s budget (steps_back n.0 s) (regions.Disjuncts l k) l k refl (w.0 n.0 n.1).0, w.1 n.0 n.1 plain m is g parts e)
 
   pub refusal_within_size : AreCases about → (claim : Claim) (f : Property) (budget : Budget) → RefusalIsWithinSize about claim f budget
   refusal_within_size cases claim f budget on plain parts l k (inl h) n size =

@@ -36,6 +36,7 @@ use Rattle.tv_region.specs.StepRegions.{HasNoDraws}
 use Rattle.tv_pre.specs.declared.gap.Gap.TheVariants.{Inexact, Open}
 use Rattle.tv_pre.specs.Wide.{IsWideAt}
 use Rattle.tv_pre.specs.Questions.{Question, IsRefusal}
+use Rattle.tv_pre.specs.Sized.{IsFewFor}
 use Rattle.tv_pre.specs.Starting.{HasNoStart, AsksStart, AsksEmpty}
 
 -- what was found of the formula that the statement is of, whatever the last round is
@@ -48,6 +49,7 @@ pub record IsFoundOf (about : CaseSystem) (s : Statement) (found : Found) : Type
   pub tells : (last : ℕ) → IsLastRound about 8 last → IfSome found.gap (IsGapFor about last s)
   pub full : found.gap ≡ None → IsFullFor about s found.part.region
   pub known : (last : ℕ) → IsLastRound about 8 last → IsKnownFor about last false s found.part.region
+  pub bounded : IsFewFor about s found.part.region
 
 abbrev pub pieces_of : Found → List Piece
 pieces_of found = found.part.region.pieces.items
@@ -80,9 +82,10 @@ IsDisproofTried about claim (tried.Left gap) = IsDisproofLeft about (aim_states 
 -- ---- refusals
 
 -- A call on regions, or a question of them, was refused on the way to what was found; or a question of the start was, about what was found.
+-- Where no case has a draw, the calls and questions of the way are no larger than is counted for the formula.
 pub data IsRefusedWith (about : CaseSystem) (s : Statement) (budget : Budget) (asks : List Piece → Question → Type 0) : PreFault → Type 0 where
   of_formula : (fault : PreFault) → ((last : ℕ) → IsLastRound about 8 last → IsPreFault about s budget (steps_back last s) fault) →
-      IsCountedFor about s fault → IsRefusedWith about s budget asks fault
+      ((last : ℕ) → IsLastRound about 8 last → IsCountedFor about budget last s fault) → IsRefusedWith about s budget asks fault
   of_start : (found : Found) (fault : CoverFault) → IsFoundOf about s found → IsRefusal about budget (asks (pieces_of found)) fault → IsRefusedWith about s budget asks (faults.Cover fault)
 
 -- of the formula, whether all states at the start lie in its region
