@@ -116,7 +116,7 @@ own_here (some_of fs) = Contains-here (some_of fs) _
 own_here (next path f) = Contains-here (next path f) _
 own_here (fix path shape f g) = Contains-here (fix path shape f g) _
 
-own_count : (cases : List LinearCase) (m l : ℕ) (f : Property) → count cases m f l ≤ greatest_count cases m f l
+pub own_count : (cases : List LinearCase) (m l : ℕ) (f : Property) → count cases m f l ≤ greatest_count cases m f l
 own_count cases m l f = part_count cases m l f f (own_here f)
 
 module _ (about : CaseSystem) (budget : Budget) (most : ℕ) where

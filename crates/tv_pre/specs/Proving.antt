@@ -26,7 +26,7 @@ use Rattle.tv_pre.specs.declared.deciding.Tried.{Tried}
 use Rattle.tv_pre.specs.declared.deciding.Tried.TheVariants as tried
 use Rattle.tv_pre.specs.declared.deciding.Unproved.{Unproved}
 use Rattle.tv_pre.specs.declared.deciding.Unproved.TheVariants as unproved
-use Rattle.tv_pre.specs.Built.{IsBuilt, IsPreFault}
+use Rattle.tv_pre.specs.Built.{IsBuilt, IsAsked, IsPreFault}
 use Rattle.tv_pre.specs.Counted.{IsCountedFor}
 use Rattle.tv_pre.specs.Finding.{IsGapOf, first_of, IsPartFor, IsFullFor, steps_back, size, AreAtomsOfDifferences, IsOpenAt, IsGapFor}
 use Rattle.tv_pre.specs.Full.{HasRows}
@@ -87,6 +87,16 @@ pub data IsRefusedWith (about : CaseSystem) (s : Statement) (budget : Budget) (a
   of_formula : (fault : PreFault) → ((last : ℕ) → IsLastRound about 8 last → IsPreFault about s budget (steps_back last s) fault) →
       ((last : ℕ) → IsLastRound about 8 last → IsCountedFor about budget last s fault) → IsRefusedWith about s budget asks fault
   of_start : (found : Found) (fault : CoverFault) → IsFoundOf about s found → IsRefusal about budget (asks (pieces_of found)) fault → IsRefusedWith about s budget asks (faults.Cover fault)
+
+-- the question is one of the formula, with rounds up to the last; or one of the start, about what was found
+pub data IsAskedOf (about : CaseSystem) (s : Statement) (asks : List Piece → Question → Type 0) : Question → Type 0 where
+  of_way : (last : ℕ) (a : Question) → IsLastRound about 8 last → IsAsked about s (steps_back last s) a → IsAskedOf about s asks a
+  of_found : (found : Found) (a : Question) → IsFoundOf about s found → asks (pieces_of found) a → IsAskedOf about s asks a
+
+-- the question is one of the claim: of its formula or of its negation
+abbrev pub IsAskedOfClaim : CaseSystem → Claim → Question → Type 0
+IsAskedOfClaim about claim a =
+    IsAskedOf about (aim_states claim.proved_aim) (AsksStart about) a ⊎ IsAskedOf about (aim_states claim.denied_aim) (AsksEmpty about) a
 
 -- of the formula, whether all states at the start lie in its region
 abbrev pub IsProofFault : CaseSystem → Claim → Budget → PreFault → Type 0
