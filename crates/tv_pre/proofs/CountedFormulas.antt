@@ -1,5 +1,5 @@
 -- How many pieces the refusals of a formula report, and how many targets its refused questions have.
-use Rattle.std.proofs.Common.{◌≡◌, inl, inr, ℕ, zero, suc, ◌+◌, ◌<◌, ◌≤◌, List, [], ◌∷◌, length, get_or, sym, subst, arith}
+use Rattle.std.proofs.Common.{◌≡◌, inl, inr, ℕ, zero, suc, ◌+◌, ◌<◌, ◌≤◌, List, [], ◌∷◌, ◌++◌, length, get_or, sym, subst, arith}
 use Rattle.std.specs.Prelude.{Contains, max, sum}
 use Rattle.std.proofs.Math.Nat.{le-max_left, le-max_right, max-le, le_refl}
 use Rattle.tv_program.specs.declared.tree.Relation.{Relation}
@@ -23,7 +23,7 @@ use Rattle.tv_cert.specs.AimViews.{statements_of, aim_states, aims_state}
 use Rattle.tv_cert.specs.Statements.{Statement, each_of, one_of, after, along, Statements, stated, stated_all}
 use Rattle.tv_known.specs.Cycles.{IsLastRound}
 use Rattle.tv_known.specs.Sizes.{product, next_count, fix_count, round_count, comparison_count, negated_count, count, product_count, sum_count, greatest_count, greatest_counts}
-use Rattle.tv_known.specs.Subformulas.{subformulas}
+use Rattle.tv_known.specs.Subformulas.{subformulas, all_subformulas}
 use Rattle.tv_known.proofs.SizeLemmas.{up_to_greatest, part_count, trans, two_ones}
 use Rattle.tv_region.specs.Regions.{lists_at, count_at}
 use Rattle.tv_region.specs.StepRegions.{HasNoDraws}
@@ -106,15 +106,15 @@ module _ (cases : List LinearCase) (m l : ℕ) where
 
 -- ---- the formula itself is one of its subformulas
 own_here : (f : Property) → Contains (subformulas f) f
-own_here (truth b) = Contains-here (truth b) _
-own_here (compare r a b) = Contains-here (compare r a b) _
-own_here (at k) = Contains-here (at k) _
-own_here term = Contains-here term _
-own_here (negated f) = Contains-here (negated f) _
-own_here (all_of fs) = Contains-here (all_of fs) _
-own_here (some_of fs) = Contains-here (some_of fs) _
-own_here (next path f) = Contains-here (next path f) _
-own_here (fix path shape f g) = Contains-here (fix path shape f g) _
+own_here (truth b) = Contains-here (truth b) []
+own_here (compare r a b) = Contains-here (compare r a b) []
+own_here (at k) = Contains-here (at k) []
+own_here term = Contains-here term []
+own_here (negated f) = Contains-here (negated f) []
+own_here (all_of fs) = Contains-here (all_of fs) (all_subformulas fs)
+own_here (some_of fs) = Contains-here (some_of fs) (all_subformulas fs)
+own_here (next path f) = Contains-here (next path f) (subformulas f)
+own_here (fix path shape f g) = Contains-here (fix path shape f g) (subformulas f ++ subformulas g)
 
 pub own_count : (cases : List LinearCase) (m l : ℕ) (f : Property) → count cases m f l ≤ greatest_count cases m f l
 own_count cases m l f = part_count cases m l f f (own_here f)
@@ -122,7 +122,7 @@ own_count cases m l f = part_count cases m l f f (own_here f)
 module _ (about : CaseSystem) (budget : Budget) (most : ℕ) where
   -- what is asked of a part is asked of the whole
   asked_in : (s t : Statement) → ((a : Statement) → HasAtom s a → HasAtom t a) → (h k : ℕ) → h ≤ k → (q : Question) → IsAsked about s h q → IsAsked about t k q
-  asked_in s t more h k l q m = asked_to about t h k q l (asked_wider about s t more h q m)
+  asked_in s t wider h k l q m = asked_to about t h k q l (asked_wider about s t wider h q m)
 
   -- ---- arguments
   module _ (fault : PreFault) where

@@ -113,17 +113,23 @@ module _ (about : CaseSystem) (bound : ℕ → ℕ) where
       end_layers_few (earlier ++ layer.pieces.items) layers a w (λ l. subst (λ ps. length (lists_at l ps) ≤ bound l) (sym (append_assoc earlier layer.pieces.items (joined_pieces layers))) (h l))
 
 -- ---- sides
-ends_counted : (shape : Shape) (a b r : Region) (f g : ℕ → ℕ) (l : ℕ) → count_at l a ≤ f l → count_at l b ≤ g l → 1 ≤ f l → 1 ≤ g l → Contains (end_sides shape a b) r → count_at l r ≤ end_count shape f g l
-ends_counted Until a b r f g l h k one other c = elim (Contains-cases b r [] c) [ inl e ↦ subst (λ x. count_at l x ≤ g l) e k | inr n ↦ absurd (Contains-none r n) ]
-ends_counted Weak a b r f g l h k one other c = elim (Contains-cases b r [] c) [ inl e ↦ subst (λ x. count_at l x ≤ g l) e k | inr n ↦ absurd (Contains-none r n) ]
-ends_counted Release a b r f g l h k one other c = elim (Contains-cases a r (b ∷ []) c) [
+both_counted : (a b r : Region) (f g : ℕ → ℕ) (l : ℕ) → count_at l a ≤ f l → count_at l b ≤ g l → 1 ≤ f l → 1 ≤ g l → Contains (a ∷ b ∷ []) r → count_at l r ≤ f l * g l
+both_counted a b r f g l h k one other c = elim (Contains-cases a r (b ∷ []) c) [
   | inl e ↦ subst (λ x. count_at l x ≤ f l * g l) e (trans (count_at l a) (f l) (f l * g l) h (times_one (f l) (g l) other))
   | inr n ↦ elim (Contains-cases b r [] n) [
     | inl e ↦ subst (λ x. count_at l x ≤ f l * g l) e (trans (count_at l b) (g l) (f l * g l) k (larger (f l) (g l) one))
     | inr m ↦ absurd (Contains-none r m)
   ]
 ]
-ends_counted Strong a b r f g l h k one other c = ends_counted Release a b r f g l h k one other c
+
+second_counted : (b r : Region) (g : ℕ → ℕ) (l : ℕ) → count_at l b ≤ g l → Contains (b ∷ []) r → count_at l r ≤ g l
+second_counted b r g l k c = elim (Contains-cases b r [] c) [ inl e ↦ subst (λ x. count_at l x ≤ g l) e k | inr n ↦ absurd (Contains-none r n) ]
+
+ends_counted : (shape : Shape) (a b r : Region) (f g : ℕ → ℕ) (l : ℕ) → count_at l a ≤ f l → count_at l b ≤ g l → 1 ≤ f l → 1 ≤ g l → Contains (end_sides shape a b) r → count_at l r ≤ end_count shape f g l
+ends_counted Until a b r f g l h k one other c = second_counted b r g l k c
+ends_counted Weak a b r f g l h k one other c = second_counted b r g l k c
+ends_counted Release a b r f g l h k one other c = both_counted a b r f g l h k one other c
+ends_counted Strong a b r f g l h k one other c = both_counted a b r f g l h k one other c
 
 going_one : (cases : List LinearCase) (path : Path) (b : ℕ → ℕ) (l : ℕ) → 1 ≤ going_count cases path b l
 going_one cases Every b l = two_ones (some_count cases (λ k. 1) l) (all_count cases b l) (some_one cases (λ k. 1) l) (all_one cases b l)
@@ -136,7 +142,7 @@ one_hold Release f g l h k = k
 one_hold Strong f g l h k = k
 
 module _ (about : CaseSystem) (sides : Sides) (last : ℕ) (f g : ℕ → ℕ) (full : AreFullyCounted sides f g) where
-  whole : ℕ → ℕ
+  abbrev whole : ℕ → ℕ
   whole l = fix_count about.cases last sides.path sides.shape f g l
 
   end_in : (l : ℕ) → end_count sides.shape f g l ≤ whole l
