@@ -137,6 +137,10 @@ pub given_less : (about : CaseSystem) (budget : Budget) (k n : ℕ) (end : Regio
 given_less about budget k n end given fault r l i e f = λ s h m.
     subst (IsPreFault about s budget (n + h)) (sym i) (fault_to about s budget (k + (0 + h)) (n + h) fault (omega (arith, l)) (f s (0 + h) (end_and_given about end given e s h m)))
 
+-- what is asked of the end and the arguments is asked of the arguments alone
+pub asked_less : (about : CaseSystem) (k n : ℕ) (end : Region) (given : List Region) (a : Question) → k ≤ n → IsBuiltOf about 0 given end → ((s : Statement) (h : ℕ) → AreBuilt about s h (end ∷ given) → IsAsked about s (k + h) a) → (s : Statement) (h : ℕ) → AreBuilt about s h given → IsAsked about s (n + h) a
+asked_less about k n end given a l e f s h m = asked_to about s (k + (0 + h)) (n + h) a (omega (arith, l)) (f s (0 + h) (end_and_given about end given e s h m))
+
 -- ---- no states in place of those at the end
 module _ (about : CaseSystem) (sides : Sides) (end none : Region) (n : IsNowhere about none) where
   pub none_at_end : OfPieces about none.pieces.items (AtEnd sides)

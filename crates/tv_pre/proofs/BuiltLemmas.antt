@@ -97,7 +97,7 @@ module _ (about : CaseSystem) where
     pieces_wider : (h : ℕ) (qs : List Piece) → ArePiecesBuilt about s h qs → ArePiecesBuilt about t h qs
     pieces_wider h qs m = record { regions = m.regions; built = λ r c. built_wider h r (m.built r c); whole = m.whole }
 
-    asked_wider : (h : ℕ) (a : Question) → IsAsked about s h a → IsAsked about t h a
+    pub asked_wider : (h : ℕ) (a : Question) → IsAsked about s h a → IsAsked about t h a
     asked_wider h _ (of_place _ own into q f m g) = of_place h own into q (pieces_wider h own f) m (pieces_wider h into g)
     asked_wider _ _ (of_steps h own into q c f m g n e) = of_steps h own into q c (pieces_wider h own f) m (pieces_wider h into g) n e
     asked_wider _ _ (of_choice h own into q stop f m g) = of_choice h own into q stop (pieces_wider h own f) m (pieces_wider h into g)

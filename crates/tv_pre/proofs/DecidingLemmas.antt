@@ -17,6 +17,7 @@ use Rattle.tv_pre.specs.declared.gap.Gap.{Gap}
 use Rattle.tv_pre.specs.Finding.{first_of}
 use Rattle.tv_pre.specs.Full.{HasRows}
 use Rattle.tv_pre.specs.KnownStates.{IsKnownFor}
+use Rattle.tv_pre.specs.Sized.{IsFewFor}
 use Rattle.tv_pre.specs.Starting.{HasNoStart}
 use Rattle.tv_pre.proofs.GapLemmas.{gap_in_order}
 use Rattle.tv_formula.specs.Formulas.{property_of}
@@ -43,8 +44,8 @@ pub states_of : (about : CaseSystem) (n : ℕ) (t : Statement) (f : Property) �
 states_of about n t f e v = e ∙ ap (λ m. stated (comparison_lists m) f) v
 
 -- what a search says of its answer, whatever the last round is
-pub found_of : (about : CaseSystem) (t s : Statement) (found : Found) → t ≡ s → IsRegion about.variables about.locations found.part.region → IsPartFor about t found.part.region found.part.node → ((last : ℕ) → IsLastRound about 8 last → IsBuilt about t (steps_back last t) found.part.region) → found.size ≡ size t → IfSome found.gap (IsGapOf about) → ((last : ℕ) → IsLastRound about 8 last → IfSome found.gap (IsGapFor about last t)) → (found.gap ≡ None → IsFullFor about t found.part.region) → ((last : ℕ) → IsLastRound about 8 last → IsKnownFor about last false t found.part.region) → IsFoundOf about s found
-found_of about t s found e over part built many gap tells full known = subst (λ u. IsFoundOf about u found) e (record { over = over; shows = part; built = built; size = many; gap = gap; tells = tells; full = full; known = known })
+pub found_of : (about : CaseSystem) (t s : Statement) (found : Found) → t ≡ s → IsRegion about.variables about.locations found.part.region → IsPartFor about t found.part.region found.part.node → ((last : ℕ) → IsLastRound about 8 last → IsBuilt about t (steps_back last t) found.part.region) → found.size ≡ size t → IfSome found.gap (IsGapOf about) → ((last : ℕ) → IsLastRound about 8 last → IfSome found.gap (IsGapFor about last t)) → (found.gap ≡ None → IsFullFor about t found.part.region) → ((last : ℕ) → IsLastRound about 8 last → IsKnownFor about last false t found.part.region) → IsFewFor about t found.part.region → IsFoundOf about s found
+found_of about t s found e over part built many gap tells full known few = subst (λ u. IsFoundOf about u found) e (record { over = over; shows = part; built = built; size = many; gap = gap; tells = tells; full = full; known = known; bounded = few })
 
 pub fault_of : (about : CaseSystem) (t s : Statement) (budget : Budget) (fault : PreFault) → t ≡ s → ((last : ℕ) → IsLastRound about 8 last → IsPreFault about t budget (steps_back last t) fault) → (last : ℕ) → IsLastRound about 8 last → IsPreFault about s budget (steps_back last s) fault
 fault_of about t s budget fault e h = subst (λ u. (last : ℕ) → IsLastRound about 8 last → IsPreFault about u budget (steps_back last u) fault) e h

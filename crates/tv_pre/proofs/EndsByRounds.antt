@@ -1,5 +1,5 @@
 -- What the rounds of termination tell.
-use Rattle.std.proofs.Common.{◌≡◌, inl, ℕ, suc, ◌+◌, ◌≤◌, List, [], ◌∷◌, length, refl, sym, ◌∙◌, subst, arith, true}
+use Rattle.std.proofs.Common.{◌≡◌, inl, inr, ℕ, suc, ◌+◌, ◌≤◌, List, [], ◌∷◌, length, refl, sym, ◌∙◌, subst, arith, true}
 use Rattle.std.specs.Prelude.{All, None, Some, IfSome}
 use Rattle.tv_formula.specs.declared.tree.Path.{Path}
 use Rattle.tv_formula.specs.declared.tree.Path.TheVariants.{Every}
@@ -15,7 +15,7 @@ use Rattle.tv_cert.specs.Statements as statements
 use Rattle.tv_known.specs.Cycles.{IsLastRound, IsStateOf}
 use Rattle.tv_known.specs.Rounds.{EndSides, FixRound, must_end, Stops}
 use Rattle.tv_known.specs.Sizes.{next_count, fix_count, term_count}
-use Rattle.tv_region.specs.Regions.{count_at}
+use Rattle.tv_region.specs.Regions.{lists_at, count_at}
 use Rattle.tv_region.specs.StepRegions.{InState, HasNoDraws}
 use Rattle.tv_rounds.specs.declared.answer.Rounds.{Rounds}
 use Rattle.tv_rounds.specs.Answers.{AreLayers, Differ}
@@ -25,29 +25,32 @@ use Rattle.tv_pre.specs.declared.gap.Gap.TheVariants.{Inexact, Open}
 use Rattle.tv_pre.specs.declared.outcome.Found.{Found}
 use Rattle.tv_pre.specs.declared.sides.Sides.{Sides}
 use Rattle.tv_pre.specs.Along.{arguments, AreWithin, AreBefore, AreAtEnd, AreRoundsOf, IsFullAlong, IsOpenAlong}
-use Rattle.tv_pre.specs.Built.{of_everywhere, of_nowhere, of_joined, AreBuilt, IsBuiltOf, IsFaultOf}
-use Rattle.tv_pre.specs.Counted.{IsWithin, IsCountedFor, IsCountedAlong}
+use Rattle.tv_pre.specs.Built.{of_everywhere, of_nowhere, of_joined, AreBuilt, IsAsked, IsBuiltOf, IsFaultOf}
+use Rattle.tv_pre.specs.Counted.{IsFewInto, IsWithinFew, IsCountedFor, IsAskedAlong, IsCountedAlong}
 use Rattle.tv_pre.specs.Ending.{AreEndLayers, AsksEndLayers}
 use Rattle.tv_pre.specs.Faults.{IsOfCover}
 use Rattle.tv_pre.specs.Finding.{IsTameFor, IsTameStatement, IsGapFor, IsFound, IsRefusedFor}
 use Rattle.tv_pre.specs.Fixed.{AreOver, IsJoined}
 use Rattle.tv_pre.specs.Full.{IsFull}
 use Rattle.tv_pre.specs.Growing.{IsEverywhere}
-use Rattle.tv_pre.specs.Parts.{IsPart}
-use Rattle.tv_pre.specs.Questions.{IsRefusal}
+use Rattle.tv_pre.specs.Parts.{IsPart, joined_pieces}
+use Rattle.tv_pre.specs.Questions.{Question, IsRefusal}
 use Rattle.tv_pre.specs.Sized.{end_count, IsFewEnd, IsFewAlong}
 use Rattle.tv_pre.specs.Termination.{anything, stopping, AreSidesOf}
 use Rattle.tv_pre.specs.Unserved.{IsUnranked}
-use Rattle.tv_pre.proofs.BuiltLemmas.{built_to, one_built}
+use Rattle.std.proofs.Math.Nat.{le_refl}
+use Rattle.tv_pre.proofs.BuiltLemmas.{asked_to, built_to, one_built, rest_built}
 use Rattle.tv_pre.proofs.ExactLemmas.{fix_open, denied_open}
+use Rattle.tv_pre.proofs.FewTargets.{few_more, cover_few, steps_few, end_layers_few}
 use Rattle.tv_pre.proofs.GapLemmas.{ends_gap}
 use Rattle.tv_pre.proofs.PassedLemmas.{cover_fault}
 use Rattle.tv_pre.proofs.SetLemmas.{no_piece}
+use Rattle.tv_pre.proofs.SizedLemmas.{none_less}
 use Rattle.tv_pre.proofs.TameLemmas.{tame_built}
 use Rattle.tv_pre.proofs.TerminationFound.{term_found}
 use Rattle.tv_pre.proofs.TerminationMeaning.{untrue, term_full, term_open, never_open}
 use Rattle.tv_pre.proofs.TerminationSides.{back_built}
-use Rattle.tv_pre.proofs.TerminationRounds.{stops_first, ends_asked, rounds_refused, term_counted, counted_sides, fully_counted, sides_made, behind_stops, layers_made, joined_made, joined_few}
+use Rattle.tv_pre.proofs.TerminationRounds.{stops_first, ends_asked, rounds_refused, term_counted, counted_sides, fully_counted, sides_made, behind_stops, layers_made, joined_made, joined_all, joined_few}
 
 -- the fixpoint of these sides is the until over every run
 module _ (about : CaseSystem) (cases : All (IsCase about.variables about.locations) about.cases) (last : ℕ) (search : IsLastRound about 8 last) (sides : Sides) (path : sides.path ≡ Every) (shape : sides.shape ≡ Until) (h : AreSidesOf about Every anything stopping sides.first.now sides.second.now) where
@@ -93,22 +96,43 @@ module _ (about : CaseSystem) (cases : All (IsCase about.variables about.locatio
   pub until_refused : (budget : Budget) (fault r : PreFault) → r ≡ fault → IsFaultOf about budget (last + 1) (sides.second.now ∷ arguments sides) fault → IsRefusedFor about budget last statements.ends r
   until_refused budget fault r e f = rounds_refused about budget statements.ends last (sides.second.now ∷ arguments sides) fault r made e f
 
-  pub until_counted : (fault r : PreFault) → r ≡ fault → IsCountedAlong about sides fault → IsCountedFor about statements.ends r
-  until_counted fault r e c =
+  -- what is asked of whatever formula the sides are made for is asked of termination
+  asked_along : (a : Question) → IsAskedAlong about (last + 2) sides a → IsAsked about statements.ends ((last + 2) + (last + 2)) a
+  asked_along a f = asked_to about statements.ends ((last + 2) + 1) ((last + 2) + (last + 2)) a (omega arith) (f statements.ends 1 (rest_built about statements.ends 1 sides.second.now (arguments sides) made))
+
+  pub until_counted : (budget : Budget) (fault r : PreFault) → r ≡ fault → IsCountedAlong about budget (last + 2) sides fault → IsCountedFor about budget last statements.ends r
+  until_counted budget fault r e c =
       let back = next_count about.cases Every (λ k. 1) in
-      subst (IsCountedFor about statements.ends) (sym e)
-      (term_counted about fault (λ plain m is. as_until (λ q w. IsWithin (fix_count about.cases m q w (λ k. 1) back) fault) (c plain m is (λ k. 1) back (fully_counted about Every anything stopping sides h plain))))
+      let asks = IsAskedAlong about (last + 2) sides in
+      subst (IsCountedFor about budget last statements.ends) (sym e)
+      (term_counted about budget last fault (λ plain m is.
+      few_more about budget asks (IsAsked about statements.ends ((last + 2) + (last + 2))) (term_count about.cases m) (term_count about.cases m) asked_along (λ l. le_refl (term_count about.cases m l)) fault
+      (as_until (λ q w. IsWithinFew about budget asks (fix_count about.cases m q w (λ k. 1) back) fault) (c plain m is (λ k. 1) back (fully_counted about Every anything stopping sides h plain)))))
 
   -- ---- layers
   module _ (answer : Rounds) (r : AreRoundsOf about last sides sides.second.now answer) (layers : List Region) (each : AreLayers about r.point 0 layers) (short : length layers ≤ last) where
     pub layers_end : AreEndLayers about [] (sides.second.now ∷ layers)
     layers_end = behind_stops about cases last search sides sides.second.now stops_few answer r layers each short path h.second_over stop_there
 
+    layers_asks : (a : Question) → AsksEndLayers about [] (sides.second.now ∷ layers) a → IsAsked about statements.ends ((last + 2) + (last + 2)) a
+    layers_asks a w = ends_asked about statements.ends ((last + 1) + 1) ((last + 2) + (last + 2)) (sides.second.now ∷ layers) a (omega arith) (layers_made about cases last search sides sides.second.now stops_few answer r layers each short statements.ends made) w
+
     pub layers_refused : (budget : Budget) (fault : CoverFault) (f : PreFault) → IsOfCover fault f → IsRefusal about budget (AsksEndLayers about [] (sides.second.now ∷ layers)) fault → IsRefusedFor about budget last statements.ends f
-    layers_refused budget fault f is refusal =
-        cover_fault about budget statements.ends ((last + 2) + (last + 2)) (AsksEndLayers about [] (sides.second.now ∷ layers))
-        (λ a w. ends_asked about statements.ends ((last + 1) + 1) ((last + 2) + (last + 2)) (sides.second.now ∷ layers) a (omega arith) (layers_made about cases last search sides sides.second.now stops_few answer r layers each short statements.ends made) w)
-        fault f is refusal
+    layers_refused budget fault f is refusal = cover_fault about budget statements.ends ((last + 2) + (last + 2)) (AsksEndLayers about [] (sides.second.now ∷ layers)) layers_asks fault f is refusal
+
+    layers_within : HasNoDraws about → (m : ℕ) → IsLastRound about 9 m → (l : ℕ) → length (lists_at l (joined_pieces (sides.second.now ∷ layers))) ≤ term_count about.cases m l
+    layers_within plain m is l =
+        let back = next_count about.cases Every (λ k. 1) in
+        let many = length (lists_at l (joined_pieces (sides.second.now ∷ layers))) in
+        let all = joined_all about cases last search sides sides.second.now stops_few answer r layers each short (subst (λ (w : Shape). must_end w ≡ true) (sym shape) refl) in
+        as_until (λ q w. many ≤ fix_count about.cases m q w (λ k. 1) back l) (all plain m is (λ k. 1) back (counted_sides about Every anything stopping sides h plain) l)
+
+    -- a refused question how the steps from a layer lead into those before it
+    pub layers_counted : (budget : Budget) (fault : CoverFault) (f : PreFault) → IsOfCover fault f → IsRefusal about budget (AsksEndLayers about [] (sides.second.now ∷ layers)) fault → IsCountedFor about budget last statements.ends f
+    layers_counted budget fault f is refusal =
+        term_counted about budget last f (λ plain m o.
+        cover_few about budget (AsksEndLayers about [] (sides.second.now ∷ layers)) (IsAsked about statements.ends ((last + 2) + (last + 2))) (term_count about.cases m) layers_asks
+        (λ a w. end_layers_few about (term_count about.cases m) [] (sides.second.now ∷ layers) a w (layers_within plain m o)) fault f is refusal)
 
     pub layers_found : (found : Found) → IsJoined about (sides.second.now ∷ layers) found.part.region → IsPart about term found.part.region found.part.node → found.size ≡ 1 → IfSome found.gap (IsGapFor about last statements.ends) → (found.gap ≡ None → IsFullAlong about sides found.part.region) → IsFound about last statements.ends found
     layers_found found j part size gap full =
@@ -128,10 +152,21 @@ module _ (about : CaseSystem) (last : ℕ) (none stops : Region) (n : IsNowhere 
   alone_made : AreBuilt about statements.ends 1 (stops ∷ layers)
   alone_made = subst (λ ls. AreBuilt about statements.ends 1 (stops ∷ ls)) (sym e) (one_built about statements.ends 1 stops (back_built about none stops built statements.ends (of_nowhere 0 none n)))
 
+  alone_asks : (a : Question) → AsksEndLayers about [] (stops ∷ layers) a → IsAsked about statements.ends ((last + 2) + (last + 2)) a
+  alone_asks a w = ends_asked about statements.ends 1 ((last + 2) + (last + 2)) (stops ∷ layers) a (omega arith) alone_made w
+
   pub alone_refused : (budget : Budget) (fault : CoverFault) (f : PreFault) → IsOfCover fault f → IsRefusal about budget (AsksEndLayers about [] (stops ∷ layers)) fault → IsRefusedFor about budget last statements.ends f
-  alone_refused budget fault f is refusal =
-      cover_fault about budget statements.ends ((last + 2) + (last + 2)) (AsksEndLayers about [] (stops ∷ layers))
-      (λ a w. ends_asked about statements.ends 1 ((last + 2) + (last + 2)) (stops ∷ layers) a (omega arith) alone_made w) fault f is refusal
+  alone_refused budget fault f is refusal = cover_fault about budget statements.ends ((last + 2) + (last + 2)) (AsksEndLayers about [] (stops ∷ layers)) alone_asks fault f is refusal
+
+  -- they ask of no targets
+  alone_into : (bound : ℕ → ℕ) (a : Question) → AsksEndLayers about [] (stops ∷ layers) a → IsFewInto bound a
+  alone_into bound a (inl w) = steps_few about bound w.0 [] a w.2 (λ l. none_less (bound l))
+  alone_into bound a (inr w) = absurd (subst (λ ls. AsksEndLayers about stops.pieces.items ls a) e w)
+
+  pub alone_counted : (budget : Budget) (fault : CoverFault) (f : PreFault) → IsOfCover fault f → IsRefusal about budget (AsksEndLayers about [] (stops ∷ layers)) fault → IsCountedFor about budget last statements.ends f
+  alone_counted budget fault f is refusal =
+      term_counted about budget last f (λ plain m o.
+      cover_few about budget (AsksEndLayers about [] (stops ∷ layers)) (IsAsked about statements.ends ((last + 2) + (last + 2))) (term_count about.cases m) alone_asks (alone_into (term_count about.cases m)) fault f is refusal)
 
   pub ends_wild : (anywhere : Region) → IsEverywhere about anywhere → (IsTameFor about anywhere stops → ⊥) → IsTameStatement about statements.ends → ⊥
   ends_wild anywhere all wild tame = wild (tame_built about statements.ends tame 1 1 anywhere stops (of_everywhere 1 anywhere all) (back_built about none stops built statements.ends (of_nowhere 0 none n)))

@@ -29,7 +29,7 @@ use Rattle.tv_pre.specs.declared.test.Test.TheVariants.{Rows, Here, Elsewhere}
 use Rattle.tv_pre.specs.Atoms.{IsTested, IsTestOf, test_lists}
 use Rattle.tv_pre.specs.Faults.{IsOfCover}
 use Rattle.tv_pre.specs.Parts.{IsPart, AreParts, joined_pieces}
-use Rattle.tv_pre.specs.Questions.{lies, IsRefusal, AsksOf, AsksEach, AsksNext}
+use Rattle.tv_pre.specs.Questions.{Question, lies, IsRefusal, AsksOf, AsksEach, AsksNext}
 use Rattle.tv_pre.specs.Along.{OthersLeadOut}
 use Rattle.tv_pre.specs.Full.{HasRows, AllHaveRows, IsFull, AreFull}
 use Rattle.tv_pre.specs.Inclusions.{OfPieces}
@@ -39,8 +39,8 @@ use Rattle.tv_pre.specs.Finding.{IsGapFor, IsGapAmong, first_of, gap_behind, IsF
 use Rattle.tv_pre.specs.Arguments.{IsArgument, AreEachArgument, AreFullFor, AreArguments}
 use Rattle.tv_pre.specs.declared.finding.Arguments.{Arguments}
 use Rattle.tv_pre.specs.Sized.{counts_at, IsFewBefore}
-use Rattle.tv_pre.specs.Built.{HasAtom, SomeHasAtom, atom_lists, IsAtomRegion, IsBuilt, of_atom, AreBuilt, IsBuiltOf, IsFaultOf, IsPreFault}
-use Rattle.tv_pre.proofs.BuiltLemmas.{built_to, built_wider, fault_to, fault_wider, one_built, more_built, pieces_of, joined_of, first_built}
+use Rattle.tv_pre.specs.Built.{HasAtom, SomeHasAtom, atom_lists, IsAtomRegion, IsBuilt, of_atom, AreBuilt, IsAsked, IsBuiltOf, IsFaultOf, IsPreFault}
+use Rattle.tv_pre.proofs.BuiltLemmas.{asked_to, built_to, built_wider, fault_to, fault_wider, one_built, more_built, pieces_of, joined_of, first_built}
 use Rattle.tv_pre.proofs.PassedLemmas.{cover_fault}
 use Rattle.tv_pre.proofs.AskedLemmas.{each_asked, place_asked, next_asked}
 use Rattle.tv_pre.proofs.FullLemmas.{atom_full, each_full, some_full, next_full}
@@ -212,20 +212,27 @@ module _ (about : CaseSystem) (last : ℕ) where
         let k = all_steps_back last (statements_of ss) in
         subst (IsPreFault about (one_of (statements_of ss)) budget k) (sym e) (fault_to about (one_of (statements_of ss)) budget (0 + k) k fault (omega arith) (f (one_of (statements_of ss)) k some_built))
 
-    pub each_question : (budget : Budget) (region : Region) (fault : CoverFault) (r : PreFault) → IsBuiltOf about 0 rs region → IsOfCover fault r → IsRefusal about budget (AsksOf (λ q. AsksEach q rs) region.pieces.items) fault → IsRefusedFor about budget last (each_of (statements_of ss)) r
-    each_question budget region fault r b is f =
+    pub each_asks : (region : Region) → IsBuiltOf about 0 rs region → (a : Question) → AsksOf (λ q. AsksEach q rs) region.pieces.items a → IsAsked about (each_of (statements_of ss)) (all_steps_back last (statements_of ss)) a
+    each_asks region b a w =
         let t = each_of (statements_of ss) in
         let k = all_steps_back last (statements_of ss) in
         let own = pieces_of about t k region (built_to about t (0 + k) k region (omega arith) (b t k each_built)) in
-        cover_fault about budget t k (AsksOf (λ q. AsksEach q rs) region.pieces.items) (λ a w. each_asked about t k region.pieces.items w.0 rs a own w.1 each_built w.2) fault r is f
+        each_asked about t k region.pieces.items w.0 rs a own w.1 each_built w.2
 
-    pub some_question : (budget : Budget) (region : Region) (fault : CoverFault) (r : PreFault) → IsBuiltOf about 0 rs region → IsOfCover fault r → IsRefusal about budget (AsksOf (λ q a. a ≡ lies q (joined_pieces rs)) region.pieces.items) fault → IsRefusedFor about budget last (one_of (statements_of ss)) r
-    some_question budget region fault r b is f =
+    pub some_asks : (region : Region) → IsBuiltOf about 0 rs region → (a : Question) → AsksOf (λ q b. b ≡ lies q (joined_pieces rs)) region.pieces.items a → IsAsked about (one_of (statements_of ss)) (all_steps_back last (statements_of ss)) a
+    some_asks region b a w =
         let t = one_of (statements_of ss) in
         let k = all_steps_back last (statements_of ss) in
         let own = pieces_of about t k region (built_to about t (0 + k) k region (omega arith) (b t k some_built)) in
-        cover_fault about budget t k (AsksOf (λ q a. a ≡ lies q (joined_pieces rs)) region.pieces.items)
-        (λ a w. place_asked about t k region.pieces.items (joined_pieces rs) w.0 a own w.1 (joined_of about t k rs some_built) w.2) fault r is f
+        place_asked about t k region.pieces.items (joined_pieces rs) w.0 a own w.1 (joined_of about t k rs some_built) w.2
+
+    pub each_question : (budget : Budget) (region : Region) (fault : CoverFault) (r : PreFault) → IsBuiltOf about 0 rs region → IsOfCover fault r → IsRefusal about budget (AsksOf (λ q. AsksEach q rs) region.pieces.items) fault → IsRefusedFor about budget last (each_of (statements_of ss)) r
+    each_question budget region fault r b is f =
+        cover_fault about budget (each_of (statements_of ss)) (all_steps_back last (statements_of ss)) (AsksOf (λ q. AsksEach q rs) region.pieces.items) (each_asks region b) fault r is f
+
+    pub some_question : (budget : Budget) (region : Region) (fault : CoverFault) (r : PreFault) → IsBuiltOf about 0 rs region → IsOfCover fault r → IsRefusal about budget (AsksOf (λ q a. a ≡ lies q (joined_pieces rs)) region.pieces.items) fault → IsRefusedFor about budget last (one_of (statements_of ss)) r
+    some_question budget region fault r b is f =
+        cover_fault about budget (one_of (statements_of ss)) (all_steps_back last (statements_of ss)) (AsksOf (λ q a. a ≡ lies q (joined_pieces rs)) region.pieces.items) (some_asks region b) fault r is f
 
   -- ---- next states
   module _ (path : Path) (s : Statement) (child : Found) (h : IsFound about last s child) where
@@ -256,16 +263,17 @@ module _ (about : CaseSystem) (last : ℕ) where
         subst (IsPreFault about (after path s) budget ((last + 2) + steps_back last s)) (sym e)
         (fault_to about (after path s) budget (1 + steps_back last s) ((last + 2) + steps_back last s) fault (omega arith) (f (after path s) (steps_back last s) child_built))
 
-    pub after_question : (budget : Budget) (region : Region) (fault : CoverFault) (r : PreFault) → IsBuiltOf about 1 (child.part.region ∷ []) region → IsOfCover fault r → IsRefusal about budget (AsksOf (λ q. AsksNext about path q child.part.region.pieces.items) region.pieces.items) fault → IsRefusedFor about budget last (after path s) r
-    after_question budget region fault r b is f =
+    pub after_asks : (region : Region) → IsBuiltOf about 1 (child.part.region ∷ []) region → (a : Question) → AsksOf (λ q. AsksNext about path q child.part.region.pieces.items) region.pieces.items a → IsAsked about (after path s) ((last + 2) + steps_back last s) a
+    after_asks region b a w =
         let t = after path s in
         let k = 1 + steps_back last s in
-        let l : suc k ≤ (last + 2) + steps_back last s = omega arith in
         let own = pieces_of about t k region (b t (steps_back last s) child_built) in
         let into = pieces_of about t k child.part.region (built_to about t (steps_back last s) k child.part.region (omega arith) (first_built about t (steps_back last s) child.part.region [] child_built)) in
-        fault_to about t budget (suc k) ((last + 2) + steps_back last s) r l
-        (cover_fault about budget t (suc k) (AsksOf (λ q. AsksNext about path q child.part.region.pieces.items) region.pieces.items)
-        (λ a w. next_asked about t k path region.pieces.items child.part.region.pieces.items w.0 a own w.1 into w.2) fault r is f)
+        asked_to about t (suc k) ((last + 2) + steps_back last s) a (omega arith) (next_asked about t k path region.pieces.items child.part.region.pieces.items w.0 a own w.1 into w.2)
+
+    pub after_question : (budget : Budget) (region : Region) (fault : CoverFault) (r : PreFault) → IsBuiltOf about 1 (child.part.region ∷ []) region → IsOfCover fault r → IsRefusal about budget (AsksOf (λ q. AsksNext about path q child.part.region.pieces.items) region.pieces.items) fault → IsRefusedFor about budget last (after path s) r
+    after_question budget region fault r b is f =
+        cover_fault about budget (after path s) ((last + 2) + steps_back last s) (AsksOf (λ q. AsksNext about path q child.part.region.pieces.items) region.pieces.items) (after_asks region b) fault r is f
 
   -- ---- fixpoints
   module _ (path : Path) (shape : Shape) (s t : Statement) (first second : Found) (h : IsFound about last s first) (g : IsFound about last t second) where

@@ -19,9 +19,6 @@ module _ (search inner : Search) (setting : inner.setting.now ≡ search.setting
   pub even_inner : (s : Statement) → IsEvenStatement (system_of search).variables s → IsEvenStatement (system_of inner).variables s
   even_inner s h = subst (λ (about : CaseSystem). IsEvenStatement about.variables s) (sym same_system) h
 
-  pub counted_outer : (s : Statement) (fault : PreFault) → IsCountedFor (system_of inner) s fault → IsCountedFor (system_of search) s fault
-  counted_outer s fault h = subst (λ (about : CaseSystem). IsCountedFor about s fault) same_system h
-
   module _ (last : inner.last ≡ search.last) where
     pub found_outer : (s : Statement) (found : Found) → IsFound (system_of inner) inner.last s found → IsFound (system_of search) search.last s found
     found_outer s found h = subst (λ (about : CaseSystem). IsFound about search.last s found) same_system (subst (λ n. IsFound (system_of inner) n s found) last h)
@@ -33,3 +30,8 @@ module _ (search inner : Search) (setting : inner.setting.now ≡ search.setting
     refused_outer s fault h =
         subst (λ (z : Setting). IsRefusedFor (cases_of z.about.now) z.budget.now search.last s fault) setting
         (subst (λ n. IsRefusedFor (system_of inner) inner.setting.now.budget.now n s fault) last h)
+
+    pub counted_outer : (s : Statement) (fault : PreFault) → IsCountedFor (system_of inner) inner.setting.now.budget.now inner.last s fault → IsCountedFor (system_of search) search.setting.now.budget.now search.last s fault
+    counted_outer s fault h =
+        subst (λ (z : Setting). IsCountedFor (cases_of z.about.now) z.budget.now search.last s fault) setting
+        (subst (λ n. IsCountedFor (system_of inner) inner.setting.now.budget.now n s fault) last h)

@@ -16,6 +16,7 @@ pub mod TreeLemmas
 pub mod FallLemmas
 pub mod ShownLemmas
 pub mod FallingLemmas
+mod FewTargets
 pub mod ComingLemmas
 pub mod GrowingLemmas
 pub mod StartLemmas

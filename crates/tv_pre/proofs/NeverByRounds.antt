@@ -28,8 +28,8 @@ use Rattle.tv_pre.specs.declared.gap.Gap.TheVariants.{Inexact, Open}
 use Rattle.tv_pre.specs.declared.outcome.Found.{Found}
 use Rattle.tv_pre.specs.declared.sides.Sides.{Sides}
 use Rattle.tv_pre.specs.Along.{arguments, AreWithin, AreAtEnd, AreRoundsOf, IsFullAlong, IsOpenAlong}
-use Rattle.tv_pre.specs.Built.{IsBuilt, of_everywhere, of_nowhere, AreBuilt, IsBuiltOf, IsFaultOf}
-use Rattle.tv_pre.specs.Counted.{IsWithin, IsCountedFor, IsCountedAlong}
+use Rattle.tv_pre.specs.Built.{IsBuilt, of_everywhere, of_nowhere, AreBuilt, IsAsked, IsBuiltOf, IsFaultOf}
+use Rattle.tv_pre.specs.Counted.{IsWithinFew, IsCountedFor, IsAskedAlong, IsCountedAlong}
 use Rattle.tv_pre.specs.Faults.{IsOfCover}
 use Rattle.tv_pre.specs.Finding.{IsTameFor, IsGapFor, IsFound, IsRefusedFor}
 use Rattle.tv_pre.specs.Fixed.{AreOver}
@@ -37,14 +37,16 @@ use Rattle.tv_pre.specs.Full.{IsFull}
 use Rattle.tv_pre.specs.Growing.{IsEverywhere}
 use Rattle.tv_pre.specs.Inclusions.{OfPieces, LeadsTo}
 use Rattle.tv_pre.specs.Parts.{IsPart}
-use Rattle.tv_pre.specs.Questions.{IsRefusal, AsksOf, AsksNext}
+use Rattle.tv_pre.specs.Questions.{Question, IsRefusal, AsksOf, AsksNext}
 use Rattle.tv_pre.specs.Sized.{end_count, IsFewEnd, IsFewAlong}
 use Rattle.tv_pre.specs.Termination.{nothing, going, AreSidesOf}
 use Rattle.tv_pre.specs.Unserved.{IsUnranked}
 use Rattle.tv_pre.proofs.AlongLemmas.{round_built}
 use Rattle.tv_pre.proofs.AskedLemmas.{next_asked}
-use Rattle.tv_pre.proofs.BuiltLemmas.{built_to, asked_to, pieces_of}
+use Rattle.std.proofs.Math.Nat.{le_refl}
+use Rattle.tv_pre.proofs.BuiltLemmas.{built_to, asked_to, pieces_of, rest_built}
 use Rattle.tv_pre.proofs.ExactLemmas.{fix_open, denied_open}
+use Rattle.tv_pre.proofs.FewTargets.{few_more, cover_few, next_few}
 use Rattle.tv_pre.proofs.GapLemmas.{never_gap}
 use Rattle.tv_pre.proofs.PassedLemmas.{cover_fault}
 use Rattle.tv_pre.proofs.SetLemmas.{no_piece}
@@ -103,11 +105,18 @@ module _ (about : CaseSystem) (cases : All (IsCase about.variables about.locatio
   pub release_refused : (budget : Budget) (fault r : PreFault) → r ≡ fault → IsFaultOf about budget (last + 1) (sides.first.now ∷ arguments sides) fault → IsRefusedFor about budget last statements.never_ends r
   release_refused budget fault r e f = rounds_refused about budget statements.never_ends last (sides.first.now ∷ arguments sides) fault r made e f
 
-  pub release_counted : (fault r : PreFault) → r ≡ fault → IsCountedAlong about sides fault → IsCountedFor about statements.never_ends r
-  release_counted fault r e c =
+  -- what is asked of whatever formula the sides are made for is asked of the negation of termination
+  asked_along : (a : Question) → IsAskedAlong about (last + 2) sides a → IsAsked about statements.never_ends ((last + 2) + (last + 2)) a
+  asked_along a f = asked_to about statements.never_ends ((last + 2) + 1) ((last + 2) + (last + 2)) a (omega arith) (f statements.never_ends 1 (rest_built about statements.never_ends 1 sides.first.now (arguments sides) made))
+
+  pub release_counted : (budget : Budget) (fault r : PreFault) → r ≡ fault → IsCountedAlong about budget (last + 2) sides fault → IsCountedFor about budget last statements.never_ends r
+  release_counted budget fault r e c =
       let back = next_count about.cases Any (λ k. 1) in
-      subst (IsCountedFor about statements.never_ends) (sym e)
-      (never_counted about fault (λ plain m is. as_release (λ q w. IsWithin (fix_count about.cases m q w (λ k. 1) back) fault) (c plain m is (λ k. 1) back (fully_counted about Any nothing going sides h plain))))
+      let asks = IsAskedAlong about (last + 2) sides in
+      subst (IsCountedFor about budget last statements.never_ends) (sym e)
+      (never_counted about budget last fault (λ plain m is.
+      few_more about budget asks (IsAsked about statements.never_ends ((last + 2) + (last + 2))) (no_term_count about.cases m) (no_term_count about.cases m) asked_along (λ l. le_refl (no_term_count about.cases m l)) fault
+      (as_release (λ q w. IsWithinFew about budget asks (fix_count about.cases m q w (λ k. 1) back) fault) (c plain m is (λ k. 1) back (fully_counted about Any nothing going sides h plain)))))
 
   -- ---- a settled round
   module _ (answer : Rounds) (r : AreRoundsOf about last sides sides.first.now answer) (k : ℕ) (round : Region) (early : k ≤ last) (is_round : IsRound false about r.point k round) where
@@ -117,12 +126,24 @@ module _ (about : CaseSystem) (cases : All (IsCase about.variables about.locatio
     round_made : IsBuilt about statements.never_ends (last + 1) round
     round_made = round_built about last sides sides.first.now statements.never_ends 1 made answer r k round early is_round
 
+    round_asks : (a : Question) → AsksOf (λ q. AsksNext about Any q round.pieces.items) round.pieces.items a → IsAsked about statements.never_ends ((last + 2) + (last + 2)) a
+    round_asks a w =
+        let own = pieces_of about statements.never_ends (last + 1) round round_made in
+        asked_to about statements.never_ends (suc (last + 1)) ((last + 2) + (last + 2)) a (omega arith) (next_asked about statements.never_ends (last + 1) Any round.pieces.items round.pieces.items w.0 a own w.1 own w.2)
+
     pub round_refused : (budget : Budget) (fault : CoverFault) (f : PreFault) → IsOfCover fault f → IsRefusal about budget (AsksOf (λ q. AsksNext about Any q round.pieces.items) round.pieces.items) fault → IsRefusedFor about budget last statements.never_ends f
     round_refused budget fault f is refusal =
-        let own = pieces_of about statements.never_ends (last + 1) round round_made in
-        cover_fault about budget statements.never_ends ((last + 2) + (last + 2)) (AsksOf (λ q. AsksNext about Any q round.pieces.items) round.pieces.items)
-        (λ a w. asked_to about statements.never_ends (suc (last + 1)) ((last + 2) + (last + 2)) a (omega arith) (next_asked about statements.never_ends (last + 1) Any round.pieces.items round.pieces.items w.0 a own w.1 own w.2))
-        fault f is refusal
+        cover_fault about budget statements.never_ends ((last + 2) + (last + 2)) (AsksOf (λ q. AsksNext about Any q round.pieces.items) round.pieces.items) round_asks fault f is refusal
+
+    round_within : HasNoDraws about → (m : ℕ) → IsLastRound about 9 m → (l : ℕ) → count_at l round ≤ no_term_count about.cases m l
+    round_within plain m is l = few_never round (round_few about cases last search sides sides.first.now none_few answer r k round early is_round (subst (λ (w : Shape). must_end w ≡ false) (sym shape) refl)) plain m is l
+
+    -- a refused question whether from each state of a piece some step leads into the round
+    pub round_counted : (budget : Budget) (fault : CoverFault) (f : PreFault) → IsOfCover fault f → IsRefusal about budget (AsksOf (λ q. AsksNext about Any q round.pieces.items) round.pieces.items) fault → IsCountedFor about budget last statements.never_ends f
+    round_counted budget fault f is refusal =
+        never_counted about budget last f (λ plain m o.
+        cover_few about budget (AsksOf (λ q. AsksNext about Any q round.pieces.items) round.pieces.items) (IsAsked about statements.never_ends ((last + 2) + (last + 2))) (no_term_count about.cases m) round_asks
+        (λ a w. next_few about (no_term_count about.cases m) Any w.0 round.pieces.items a w.2 (round_within plain m o)) fault f is refusal)
 
     pub round_found : (found : Found) → round ≡ found.part.region → IsPart about (negated term) found.part.region found.part.node → found.size ≡ 1 → IfSome found.gap (IsGapFor about last statements.never_ends) → (found.gap ≡ None → IsFullAlong about sides round) → IsFound about last statements.never_ends found
     round_found found e part size gap full =

@@ -1,8 +1,9 @@
 -- Faults that are kept, and what they show of regions that are built.
 use Rattle.std.proofs.Common.{◌≡◌, ℕ, suc, ◌+◌, ◌≤◌, List, sym, subst, arith, Bool}
-use Rattle.std.specs.Prelude.{Result}
+use Rattle.std.specs.Prelude.{Contains, Result}
 use Rattle.std.specs.Result.{IsErrAnd, IfErr}
 use Rattle.std.proofs.lemmas.Result.{err_from_is_err_and}
+use Rattle.tv_linear.specs.declared.region.Piece.{Piece}
 use Rattle.tv_linear.specs.declared.region.Region.{Region}
 use Rattle.tv_cases.specs.LinearCases.{CaseSystem}
 use Rattle.tv_cert.specs.Statements.{Statement}
@@ -63,16 +64,21 @@ module _ (about : CaseSystem) (budget : Budget) where
       built_to about s (suc k + h) (suc most + h) next (omega (arith, l)) (made_built about s h fix hold end (suc k) next g.made),
     )
 
+    -- whether a piece of the one region lies in the other one is a question of what the sides are made for
+    pub compared_asked : (grows : Bool) (k : ℕ) (inner outer : Region) → k ≤ most → IsCompared about fix k grows inner outer → (q : Piece) → Contains inner.pieces.items q → IsAsked about s (suc most + h) (lies q outer.pieces.items)
+    compared_asked grows k inner outer l c q m =
+        let b = compared_built k grows inner outer l c in
+        of_place (suc most + h) inner.pieces.items outer.pieces.items q (pieces_of about s (suc most + h) inner b.0) m (pieces_of about s (suc most + h) outer b.1)
+
     pub rounds_fault : (grows : Bool) (fault : RoundFault) (r : PreFault) → IsOfRounds fault r → answers.IsFaultOf grows about fix most budget fault → IsPreFault about s budget (suc most + h) r
     rounds_fault grows fault (faults.Region k) is m =
         (let w = subst (answers.IsFaultOf grows about fix most budget) is m in (call_built about s h fix hold end budget (suc most) k w.0, w.1))
     rounds_fault grows fault (faults.Cover k) is m =
         (let w = subst (answers.IsFaultOf grows about fix most budget) is m in
-        let v = w.0 in
-        let b = compared_built v.round grows v.inner v.outer v.early v.compared in (
+        let v = w.0 in (
           record {
             question = lies v.refused.piece v.outer.pieces.items;
-            asked = of_place (suc most + h) v.inner.pieces.items v.outer.pieces.items v.refused.piece (pieces_of about s (suc most + h) v.inner b.0) v.refused.among (pieces_of about s (suc most + h) v.outer b.1);
+            asked = compared_asked grows v.round v.inner v.outer v.early v.compared v.refused.piece v.refused.among;
             refuses = v.refused.refused;
           },
           w.1,

@@ -39,7 +39,7 @@ use Rattle.tv_pre.specs.Around.{two_ends}
 use Rattle.tv_pre.specs.Fixed.{IsJoined}
 use Rattle.tv_pre.specs.Growing.{IsEverywhere}
 use Rattle.tv_pre.specs.Parts.{joined_pieces}
-use Rattle.tv_pre.specs.Sized.{counts_at, hold_count, end_count, AreCounted, IsFewBefore, IsFewStaying, IsFewEnd, IsFewOnward, IsFewGoing, IsFewAlong, FewIsWithinSize}
+use Rattle.tv_pre.specs.Sized.{counts_at, hold_count, end_count, AreCounted, IsFewBefore, IsFewStaying, IsFewEnd, IsFewOnward, IsFewGoing, IsFewAlong, IsFewJoined, FewIsWithinSize}
 use Rattle.tv_pre.proofs.TargetLemmas.{lists_at-append}
 use Rattle.tv_pre.proofs.ShortPaths.{IsShort, no_long_path}
 use Rattle.tv_pre.proofs.SettledRounds.{short_settles}
@@ -114,7 +114,7 @@ more_whole regions i whole r new n e b l h =
 pub first_whole : (about : CaseSystem) (whole : Region) → IsNowhere about whole → (l : ℕ) → count_at l whole ≤ sum []
 first_whole about whole n l = trans (count_at l whole) 0 (sum []) (nowhere_few about whole n l) (none_less (sum []))
 
-joined_count : (l : ℕ) (r : Region) (rs : List Region) → length (lists_at l (joined_pieces (r ∷ rs))) ≡ count_at l r + length (lists_at l (joined_pieces rs))
+pub joined_count : (l : ℕ) (r : Region) (rs : List Region) → length (lists_at l (joined_pieces (r ∷ rs))) ≡ count_at l r + length (lists_at l (joined_pieces rs))
 joined_count l r rs = ap length (lists_at-append l r.pieces.items (joined_pieces rs)) ∙ length-append (lists_at l r.pieces.items) (lists_at l (joined_pieces rs))
 
 pub none_joined : (rest : List Region) → rest ≡ [] → (l : ℕ) → length (lists_at l (joined_pieces rest)) ≤ 0
@@ -259,30 +259,36 @@ pub last_is_one : (about : CaseSystem) (m : ℕ) → about.start < about.locatio
 last_is_one about m s (inl b) = (let y = b.1 in omega (arith, y))
 last_is_one about m s (inr b) = (let y = b.1 in omega (arith, y, s))
 
-module _ (about : CaseSystem) (sides : Sides) (end region : Region) (bounded : IsFewEnd sides end) where
+-- the pieces of these regions together
+joined_along : (about : CaseSystem) (sides : Sides) (regions : List Region) (region : Region) → IsFewJoined about sides regions → IsJoined about regions region → IsFewAlong about sides region
+joined_along about sides regions region few j plain last is f g h l = subst (λ ps. length (lists_at l ps) ≤ fix_count about.cases last sides.path sides.shape f g l) (sym j.pieces) (few plain last is f g h l)
+
+module _ (about : CaseSystem) (sides : Sides) (end : Region) (bounded : IsFewEnd sides end) where
   -- the end alone
-  pub ended_few : (rest : List Region) → ((l : ℕ) → length (lists_at l (joined_pieces rest)) ≤ 0) → IsJoined about (end ∷ rest) region → IsFewAlong about sides region
-  ended_few rest none j plain last is f g h l =
+  pub ended_joined : (rest : List Region) → ((l : ℕ) → length (lists_at l (joined_pieces rest)) ≤ 0) → IsFewJoined about sides (end ∷ rest)
+  ended_joined rest none plain last is f g h l =
       let q = joined_count l end rest in
       let z = none l in
       let e = bounded f g h l in
-      let all : count_at l region ≤ end_count sides.shape f g l = subst (λ ps. length (lists_at l ps) ≤ end_count sides.shape f g l) (sym j.pieces) (omega (arith, q, z, e)) in
-      within about sides f g last l (count_at l region) 0 (none_less last) (trans (count_at l region) (end_count sides.shape f g l) (round_count about.cases sides.path sides.shape f g 0 l) all (first_round sides.shape about.cases sides.path f g l))
+      let many = length (lists_at l (joined_pieces (end ∷ rest))) in
+      let all : many ≤ end_count sides.shape f g l = omega (arith, q, z, e) in
+      within about sides f g last l many 0 (none_less last) (trans many (end_count sides.shape f g l) (round_count about.cases sides.path sides.shape f g 0 l) all (first_round sides.shape about.cases sides.path f g l))
 
   -- the end and the layers of rounds that grow
-  pub grown_few : must_end sides.shape ≡ true → (point : FixedPoint) → IsOfSides sides end point → (layers : List Region) → AreLayers about point 0 layers → ((last : ℕ) → IsLastRound about 9 last → length layers ≤ last) → IsJoined about (end ∷ layers) region → IsFewAlong about sides region
-  grown_few must point of layers each early j plain last is f g h l =
+  pub grown_joined : must_end sides.shape ≡ true → (point : FixedPoint) → IsOfSides sides end point → (layers : List Region) → AreLayers about point 0 layers → ((last : ℕ) → IsLastRound about 9 last → length layers ≤ last) → IsFewJoined about sides (end ∷ layers)
+  grown_joined must point of layers each early plain last is f g h l =
       let hold = hold_count sides.shape f g in
       let ends = end_count sides.shape f g in
       let n = length layers in
+      let many = length (lists_at l (joined_pieces (end ∷ layers))) in
       let q = joined_count l end layers in
       let all = layers_few about plain point hold ends (sides_counted sides f g h end point of bounded) l 0 n (count_at l end) layers (omega arith) (bounded f g h l) each in
-      let bound : count_at l region ≤ growing_count about.cases point.path hold ends n l = subst (λ ps. length (lists_at l ps) ≤ growing_count about.cases point.path hold ends n l) (sym j.pieces) (omega (arith, q, all)) in
-      grown_within about sides f g last l must (count_at l region) n (early last is) (subst (λ (p : Path). count_at l region ≤ growing_count about.cases p hold ends n l) of.path bound)
+      let bound : many ≤ growing_count about.cases point.path hold ends n l = omega (arith, q, all) in
+      grown_within about sides f g last l must many n (early last is) (subst (λ (p : Path). many ≤ growing_count about.cases p hold ends n l) of.path bound)
 
   -- the end and the states on the way that stay in a round
-  pub shrunk_few : must_end sides.shape ≡ false → (point : FixedPoint) → IsOfSides sides end point → (k : ℕ) (round more : Region) → IsRound false about point k round → IsFewOnward about sides round more → ((last : ℕ) → IsLastRound about 9 last → suc k ≤ last) → IsJoined about (end ∷ more ∷ []) region → IsFewAlong about sides region
-  shrunk_few must point of k round more is_round onward early j plain last is f g h l =
+  pub shrunk_joined : must_end sides.shape ≡ false → (point : FixedPoint) → IsOfSides sides end point → (k : ℕ) (round more : Region) → IsRound false about point k round → IsFewOnward about sides round more → ((last : ℕ) → IsLastRound about 9 last → suc k ≤ last) → IsFewJoined about sides (end ∷ more ∷ [])
+  shrunk_joined must point of k round more is_round onward early plain last is f g h l =
       let hold = hold_count sides.shape f g in
       let ends = end_count sides.shape f g in
       let b = shrinking_count about.cases sides.path hold ends k in
@@ -291,13 +297,13 @@ module _ (about : CaseSystem) (sides : Sides) (end region : Region) (bounded : I
       let second = onward plain f g b h rounds l in
       let q = joined_count l end (more ∷ []) in
       let r = joined_count l more [] in
-      let sum : length (lists_at l (joined_pieces (end ∷ more ∷ []))) ≤ ends l + hold l * staying_count about.cases sides.path b l = omega (arith, q, r, first, second) in
-      let bound : count_at l region ≤ shrinking_count about.cases sides.path hold ends (suc k) l = subst (λ ps. length (lists_at l ps) ≤ shrinking_count about.cases sides.path hold ends (suc k) l) (sym j.pieces) sum in
-      shrunk_within about sides f g last l must (count_at l region) (suc k) (early last is) bound
+      let many = length (lists_at l (joined_pieces (end ∷ more ∷ []))) in
+      let sum : many ≤ ends l + hold l * staying_count about.cases sides.path b l = omega (arith, q, r, first, second) in
+      shrunk_within about sides f g last l must many (suc k) (early last is) sum
 
   -- the end and all states on the way with a step
-  pub came_few : must_end sides.shape ≡ true → sides.path ≡ Every → (onward : Region) → IsFewGoing about sides onward → about.start < about.locations → IsJoined about (end ∷ onward ∷ []) region → IsFewAlong about sides region
-  came_few must path onward going start j plain last is f g h l =
+  pub came_joined : must_end sides.shape ≡ true → sides.path ≡ Every → (onward : Region) → IsFewGoing about sides onward → about.start < about.locations → IsFewJoined about sides (end ∷ onward ∷ [])
+  came_joined must path onward going start plain last is f g h l =
       let hold = hold_count sides.shape f g in
       let ends = end_count sides.shape f g in
       let some = some_count about.cases (λ k. 1) l in
@@ -306,9 +312,23 @@ module _ (about : CaseSystem) (sides : Sides) (end region : Region) (bounded : I
       let second = trans (count_at l onward) (hold l * some) (hold l * (some * all)) (going plain f g h l) (mul-le (hold l) some (hold l) (some * all) (le_refl (hold l)) (times_one some all (all_one about.cases ends l))) in
       let q = joined_count l end (onward ∷ []) in
       let r = joined_count l onward [] in
-      let sum : length (lists_at l (joined_pieces (end ∷ onward ∷ []))) ≤ ends l + hold l * (some * all) = omega (arith, q, r, first, second) in
-      let every : count_at l region ≤ growing_count about.cases Every hold ends 1 l = subst (λ ps. length (lists_at l ps) ≤ growing_count about.cases Every hold ends 1 l) (sym j.pieces) sum in
-      grown_within about sides f g last l must (count_at l region) 1 (last_is_one about last start is) (subst (λ (p : Path). count_at l region ≤ growing_count about.cases p hold ends 1 l) (sym path) every)
+      let many = length (lists_at l (joined_pieces (end ∷ onward ∷ []))) in
+      let sum : many ≤ ends l + hold l * (some * all) = omega (arith, q, r, first, second) in
+      let every : many ≤ growing_count about.cases Every hold ends 1 l = sum in
+      grown_within about sides f g last l must many 1 (last_is_one about last start is) (subst (λ (p : Path). many ≤ growing_count about.cases p hold ends 1 l) (sym path) every)
+
+module _ (about : CaseSystem) (sides : Sides) (end region : Region) (bounded : IsFewEnd sides end) where
+  pub ended_few : (rest : List Region) → ((l : ℕ) → length (lists_at l (joined_pieces rest)) ≤ 0) → IsJoined about (end ∷ rest) region → IsFewAlong about sides region
+  ended_few rest none j = joined_along about sides (end ∷ rest) region (ended_joined about sides end bounded rest none) j
+
+  pub grown_few : must_end sides.shape ≡ true → (point : FixedPoint) → IsOfSides sides end point → (layers : List Region) → AreLayers about point 0 layers → ((last : ℕ) → IsLastRound about 9 last → length layers ≤ last) → IsJoined about (end ∷ layers) region → IsFewAlong about sides region
+  grown_few must point of layers each early j = joined_along about sides (end ∷ layers) region (grown_joined about sides end bounded must point of layers each early) j
+
+  pub shrunk_few : must_end sides.shape ≡ false → (point : FixedPoint) → IsOfSides sides end point → (k : ℕ) (round more : Region) → IsRound false about point k round → IsFewOnward about sides round more → ((last : ℕ) → IsLastRound about 9 last → suc k ≤ last) → IsJoined about (end ∷ more ∷ []) region → IsFewAlong about sides region
+  shrunk_few must point of k round more is_round onward early j = joined_along about sides (end ∷ more ∷ []) region (shrunk_joined about sides end bounded must point of k round more is_round onward early) j
+
+  pub came_few : must_end sides.shape ≡ true → sides.path ≡ Every → (onward : Region) → IsFewGoing about sides onward → about.start < about.locations → IsJoined about (end ∷ onward ∷ []) region → IsFewAlong about sides region
+  came_few must path onward going start j = joined_along about sides (end ∷ onward ∷ []) region (came_joined about sides end bounded must path onward going start) j
 
 -- ---- the last round
 pub last_before : (about : CaseSystem) (n m k : ℕ) → IsLastRound about 8 n → IsLastRound about 9 m → k ≤ n → k ≤ m

@@ -29,22 +29,23 @@ use Rattle.tv_pre.specs.declared.fault.PreFault.{PreFault}
 use Rattle.tv_pre.specs.declared.sides.Sides.{Sides}
 use Rattle.tv_pre.specs.Along.{arguments, AreRoundsOf}
 use Rattle.tv_pre.specs.Built.{IsBuilt, of_joined, AreBuilt, ArePiecesBuilt, IsAsked, IsPreFault, IsFaultOf}
-use Rattle.tv_pre.specs.Counted.{IsWithin, IsCountedFor, IsCountedBefore, AreFullyCounted}
+use Rattle.tv_pre.specs.Counted.{IsWithinFew, IsCountedFor, IsCountedBefore, AreFullyCounted}
 use Rattle.tv_pre.specs.Ending.{AreEndLayers, AsksEndLayers}
 use Rattle.tv_pre.specs.Fixed.{IsJoined}
 use Rattle.tv_pre.specs.Growing.{IsEverywhere, AreNextLayers}
 use Rattle.tv_pre.specs.Inclusions.{OfPieces, LeadsTo}
 use Rattle.tv_pre.specs.Pieces.{InPieces}
 use Rattle.tv_pre.specs.Questions.{Question}
-use Rattle.tv_pre.specs.Sized.{hold_count, end_count, AreCounted, IsFewEnd, IsFewAlong}
+use Rattle.tv_pre.specs.Sized.{hold_count, end_count, AreCounted, IsFewEnd, IsFewAlong, IsFewJoined}
 use Rattle.tv_pre.specs.Termination.{AreSidesOf}
 use Rattle.tv_pre.proofs.AlongLemmas.{first_layers, until_built, answer_built}
 use Rattle.tv_pre.proofs.AskedLemmas.{steps_asked, append_built}
 use Rattle.tv_pre.proofs.BuiltLemmas.{built_to, asked_to, fault_to, one_built, more_built, pieces_of}
 use Rattle.tv_pre.proofs.CountedFormulas.{next_one}
 use Rattle.tv_pre.proofs.CountedLemmas.{within_more}
+use Rattle.tv_pre.proofs.FewTargets.{few_more, call_few}
 use Rattle.tv_pre.proofs.FormulaLemmas.{ends_is, never_is}
-use Rattle.tv_pre.proofs.SizedLemmas.{everywhere_few, nowhere_few, sides_counted, grown_few, shrunk_within, last_before}
+use Rattle.tv_pre.proofs.SizedLemmas.{everywhere_few, nowhere_few, sides_counted, grown_joined, grown_few, shrunk_within, last_before}
 
 module _ (about : CaseSystem) where
   -- ---- layers
@@ -80,30 +81,37 @@ module _ (about : CaseSystem) where
       subst (IsPreFault about s budget ((last + 2) + (last + 2))) (sym e) (fault_to about s budget ((last + 1) + 1) ((last + 2) + (last + 2)) fault (omega arith) (f s 1 m))
 
   -- ---- counts
-  pub term_counted : (r : PreFault) → (HasNoDraws about → (m : ℕ) → IsLastRound about 9 m → IsWithin (term_count about.cases m) r) → IsCountedFor about statements.ends r
-  term_counted r h plain m is f parts e =
-      subst (λ (g : Property). IsWithin (greatest_count about.cases m g) r) (sym (ends_is (comparison_lists about.variables) f e))
-      (within_more (term_count about.cases m) (greatest_count about.cases m term) (λ l. le-max_left (term_count about.cases m l) (next_count about.cases Every (λ k. 1) l)) r (h plain m is))
+  module _ (budget : Budget) (most : ℕ) where
+    pub term_counted : (r : PreFault) → (HasNoDraws about → (m : ℕ) → IsLastRound about 9 m → IsWithinFew about budget (IsAsked about statements.ends ((most + 2) + (most + 2))) (term_count about.cases m) r) → IsCountedFor about budget most statements.ends r
+    term_counted r h plain m is f parts e =
+        let asked = IsAsked about statements.ends ((most + 2) + (most + 2)) in
+        subst (λ (g : Property). IsWithinFew about budget asked (greatest_count about.cases m g) r) (sym (ends_is (comparison_lists about.variables) f e))
+        (few_more about budget asked asked (term_count about.cases m) (greatest_count about.cases m term) (λ a x. x) (λ l. le-max_left (term_count about.cases m l) (next_count about.cases Every (λ k. 1) l)) r (h plain m is))
 
-  pub never_counted : (r : PreFault) → (HasNoDraws about → (m : ℕ) → IsLastRound about 9 m → IsWithin (no_term_count about.cases m) r) → IsCountedFor about statements.never_ends r
-  never_counted r h plain m is f parts e =
-      subst (λ (g : Property). IsWithin (greatest_count about.cases m g) r) (sym (never_is (comparison_lists about.variables) f e))
-      (within_more (no_term_count about.cases m) (greatest_count about.cases m (negated term)) (λ l. le-max_left (no_term_count about.cases m l) (next_count about.cases Any (λ k. 1) l)) r (h plain m is))
+    pub never_counted : (r : PreFault) → (HasNoDraws about → (m : ℕ) → IsLastRound about 9 m → IsWithinFew about budget (IsAsked about statements.never_ends ((most + 2) + (most + 2))) (no_term_count about.cases m) r) → IsCountedFor about budget most statements.never_ends r
+    never_counted r h plain m is f parts e =
+        let asked = IsAsked about statements.never_ends ((most + 2) + (most + 2)) in
+        subst (λ (g : Property). IsWithinFew about budget asked (greatest_count about.cases m g) r) (sym (never_is (comparison_lists about.variables) f e))
+        (few_more about budget asked asked (no_term_count about.cases m) (greatest_count about.cases m (negated term)) (λ a x. x) (λ l. le-max_left (no_term_count about.cases m l) (next_count about.cases Any (λ k. 1) l)) r (h plain m is))
 
-  pub stops_counted : (none : Region) (r : PreFault) → IsNowhere about none → IsCountedBefore about Every none r → IsCountedFor about statements.ends r
-  stops_counted none r n h plain m is f parts e =
-      subst (λ (g : Property). IsWithin (greatest_count about.cases m g) r) (sym (ends_is (comparison_lists about.variables) f e))
-      (within_more (next_count about.cases Every (λ k. 1)) (greatest_count about.cases m term) (λ l. le-max_right (term_count about.cases m l) (next_count about.cases Every (λ k. 1) l)) r
-      (h plain (λ k. 1) (λ l. one (count_at l none) (nowhere_few about none n l))))
-    where
-      one : (a : ℕ) → a ≤ 0 → a ≤ 1
-      one a h = omega (arith, h)
+    pub stops_counted : (none : Region) (r : PreFault) → IsNowhere about none → IsCountedBefore about Every none r → IsCountedFor about budget most statements.ends r
+    stops_counted none r n h plain m is f parts e =
+        let asked = IsAsked about statements.ends ((most + 2) + (most + 2)) in
+        subst (λ (g : Property). IsWithinFew about budget asked (greatest_count about.cases m g) r) (sym (ends_is (comparison_lists about.variables) f e))
+        (call_few about budget asked (greatest_count about.cases m term) r
+        (within_more (next_count about.cases Every (λ k. 1)) (greatest_count about.cases m term) (λ l. le-max_right (term_count about.cases m l) (next_count about.cases Every (λ k. 1) l)) r
+        (h plain (λ k. 1) (λ l. one (count_at l none) (nowhere_few about none n l)))))
+      where
+        one : (a : ℕ) → a ≤ 0 → a ≤ 1
+        one a h = omega (arith, h)
 
-  pub goes_counted : (all : Region) (r : PreFault) → IsEverywhere about all → IsCountedBefore about Any all r → IsCountedFor about statements.never_ends r
-  goes_counted all r a h plain m is f parts e =
-      subst (λ (g : Property). IsWithin (greatest_count about.cases m g) r) (sym (never_is (comparison_lists about.variables) f e))
-      (within_more (next_count about.cases Any (λ k. 1)) (greatest_count about.cases m (negated term)) (λ l. le-max_right (no_term_count about.cases m l) (next_count about.cases Any (λ k. 1) l)) r
-      (h plain (λ k. 1) (everywhere_few about all a)))
+    pub goes_counted : (all : Region) (r : PreFault) → IsEverywhere about all → IsCountedBefore about Any all r → IsCountedFor about budget most statements.never_ends r
+    goes_counted all r a h plain m is f parts e =
+        let asked = IsAsked about statements.never_ends ((most + 2) + (most + 2)) in
+        subst (λ (g : Property). IsWithinFew about budget asked (greatest_count about.cases m g) r) (sym (never_is (comparison_lists about.variables) f e))
+        (call_few about budget asked (greatest_count about.cases m (negated term)) r
+        (within_more (next_count about.cases Any (λ k. 1)) (greatest_count about.cases m (negated term)) (λ l. le-max_right (no_term_count about.cases m l) (next_count about.cases Any (λ k. 1) l)) r
+        (h plain (λ k. 1) (everywhere_few about all a))))
 
   -- ---- sides
   module _ (path : Path) (f g : Property) (sides : Sides) (h : AreSidesOf about path f g sides.first.now sides.second.now) where
@@ -129,6 +137,9 @@ module _ (about : CaseSystem) where
       joined_made s region m j =
           built_to about s (suc ((last + 1) + 1)) ((last + 2) + (last + 2)) region (omega arith)
           (of_joined ((last + 1) + 1) (end ∷ layers) region (layers_made s m) (let few : length (end ∷ layers) ≤ ((last + 1) + 1) + 2 = omega (arith, short) in few) j)
+
+      pub joined_all : must_end sides.shape ≡ true → IsFewJoined about sides (end ∷ layers)
+      joined_all must = grown_joined about sides end bounded must r.point r.of layers each (λ m is. last_before about last m (length layers) search is short)
 
       pub joined_few : must_end sides.shape ≡ true → (region : Region) → IsJoined about (end ∷ layers) region → IsFewAlong about sides region
       joined_few must region j = grown_few about sides end region bounded must r.point r.of layers each (λ m is. last_before about last m (length layers) search is short) j

@@ -26,7 +26,7 @@ use Rattle.tv_pre.specs.declared.deciding.Tried.{Tried}
 use Rattle.tv_pre.specs.declared.deciding.Tried.TheVariants as tried
 use Rattle.tv_pre.specs.declared.deciding.Unproved.{Unproved}
 use Rattle.tv_pre.specs.declared.deciding.Unproved.TheVariants as unproved
-use Rattle.tv_pre.specs.Built.{IsBuilt, IsPreFault}
+use Rattle.tv_pre.specs.Built.{IsBuilt, IsAsked, IsPreFault}
 use Rattle.tv_pre.specs.Counted.{IsCountedFor}
 use Rattle.tv_pre.specs.Finding.{IsGapOf, first_of, IsPartFor, IsFullFor, steps_back, size, AreAtomsOfDifferences, IsOpenAt, IsGapFor}
 use Rattle.tv_pre.specs.Full.{HasRows}
@@ -36,6 +36,7 @@ use Rattle.tv_region.specs.StepRegions.{HasNoDraws}
 use Rattle.tv_pre.specs.declared.gap.Gap.TheVariants.{Inexact, Open}
 use Rattle.tv_pre.specs.Wide.{IsWideAt}
 use Rattle.tv_pre.specs.Questions.{Question, IsRefusal}
+use Rattle.tv_pre.specs.Sized.{IsFewFor}
 use Rattle.tv_pre.specs.Starting.{HasNoStart, AsksStart, AsksEmpty}
 
 -- what was found of the formula that the statement is of, whatever the last round is
@@ -48,6 +49,7 @@ pub record IsFoundOf (about : CaseSystem) (s : Statement) (found : Found) : Type
   pub tells : (last : ℕ) → IsLastRound about 8 last → IfSome found.gap (IsGapFor about last s)
   pub full : found.gap ≡ None → IsFullFor about s found.part.region
   pub known : (last : ℕ) → IsLastRound about 8 last → IsKnownFor about last false s found.part.region
+  pub bounded : IsFewFor about s found.part.region
 
 abbrev pub pieces_of : Found → List Piece
 pieces_of found = found.part.region.pieces.items
@@ -80,10 +82,21 @@ IsDisproofTried about claim (tried.Left gap) = IsDisproofLeft about (aim_states 
 -- ---- refusals
 
 -- A call on regions, or a question of them, was refused on the way to what was found; or a question of the start was, about what was found.
+-- Where no case has a draw, the calls and questions of the way are no larger than is counted for the formula.
 pub data IsRefusedWith (about : CaseSystem) (s : Statement) (budget : Budget) (asks : List Piece → Question → Type 0) : PreFault → Type 0 where
   of_formula : (fault : PreFault) → ((last : ℕ) → IsLastRound about 8 last → IsPreFault about s budget (steps_back last s) fault) →
-      IsCountedFor about s fault → IsRefusedWith about s budget asks fault
+      ((last : ℕ) → IsLastRound about 8 last → IsCountedFor about budget last s fault) → IsRefusedWith about s budget asks fault
   of_start : (found : Found) (fault : CoverFault) → IsFoundOf about s found → IsRefusal about budget (asks (pieces_of found)) fault → IsRefusedWith about s budget asks (faults.Cover fault)
+
+-- the question is one of the formula, with rounds up to the last; or one of the start, about what was found
+pub data IsAskedOf (about : CaseSystem) (s : Statement) (asks : List Piece → Question → Type 0) : Question → Type 0 where
+  of_way : (last : ℕ) (a : Question) → IsLastRound about 8 last → IsAsked about s (steps_back last s) a → IsAskedOf about s asks a
+  of_found : (found : Found) (a : Question) → IsFoundOf about s found → asks (pieces_of found) a → IsAskedOf about s asks a
+
+-- the question is one of the claim: of its formula or of its negation
+abbrev pub IsAskedOfClaim : CaseSystem → Claim → Question → Type 0
+IsAskedOfClaim about claim a =
+    IsAskedOf about (aim_states claim.proved_aim) (AsksStart about) a ⊎ IsAskedOf about (aim_states claim.denied_aim) (AsksEmpty about) a
 
 -- of the formula, whether all states at the start lie in its region
 abbrev pub IsProofFault : CaseSystem → Claim → Budget → PreFault → Type 0

@@ -1,5 +1,5 @@
 -- How many pieces the regions of a formula have, where no case has a draw.
-use Rattle.std.specs.Prelude.{◌≡◌, ℕ, ◌*◌, ◌<◌, ◌≤◌, List, map}
+use Rattle.std.specs.Prelude.{◌≡◌, ℕ, ◌*◌, ◌<◌, ◌≤◌, List, length, map}
 use Rattle.tv_formula.specs.declared.tree.Path.{Path}
 use Rattle.tv_formula.specs.declared.tree.Shape.{Shape}
 use Rattle.tv_formula.specs.declared.tree.Shape.TheVariants.{Until, Weak, Release, Strong}
@@ -11,11 +11,12 @@ use Rattle.tv_cert.specs.Statements.{Statement, stated}
 use Rattle.tv_known.specs.Cycles.{IsLastRound}
 use Rattle.tv_known.specs.Laws.{StandsIn}
 use Rattle.tv_known.specs.Sizes.{some_count, next_count, staying_count, fix_count, count, IsSize}
-use Rattle.tv_region.specs.Regions.{count_at}
+use Rattle.tv_region.specs.Regions.{lists_at, count_at}
 use Rattle.tv_region.specs.StepRegions.{HasNoDraws}
 use Rattle.tv_pre.specs.declared.ranked_along.RankedAlong.{RankedAlong}
 use Rattle.tv_pre.specs.declared.ranked_along.RankedAlong.TheVariants.{Everywhere, Unsettled, Untold}
 use Rattle.tv_pre.specs.declared.sides.Sides.{Sides}
+use Rattle.tv_pre.specs.Parts.{joined_pieces}
 
 -- ---- the formula
 
@@ -92,6 +93,12 @@ abbrev pub IsFewAlong : CaseSystem → Sides → Region → Type 0
 IsFewAlong about sides region =
     HasNoDraws about → (last : ℕ) → IsLastRound about 9 last → (f g : ℕ → ℕ) → AreCounted sides f g →
     (l : ℕ) → count_at l region ≤ fix_count about.cases last sides.path sides.shape f g l
+
+-- the same of the pieces of these regions together
+abbrev pub IsFewJoined : CaseSystem → Sides → List Region → Type 0
+IsFewJoined about sides regions =
+    HasNoDraws about → (last : ℕ) → IsLastRound about 9 last → (f g : ℕ → ℕ) → AreCounted sides f g →
+    (l : ℕ) → length (lists_at l (joined_pieces regions)) ≤ fix_count about.cases last sides.path sides.shape f g l
 
 -- where the ranks tell that it holds everywhere
 abbrev pub IsFewRanked : CaseSystem → Sides → RankedAlong → Type 0

@@ -7,6 +7,8 @@ use Rattle.tv_formula.specs.declared.tree.Path.{Path}
 use Rattle.tv_formula.specs.declared.tree.Shape.{Shape}
 use Rattle.tv_formula.specs.Properties.{Property}
 use Rattle.tv_farkas.specs.declared.budget.Budget.{Budget}
+use Rattle.tv_farkas.specs.declared.fault.CoverFault.{CoverFault}
+use Rattle.tv_farkas.specs.declared.fault.CoverFault.TheVariants as covers
 use Rattle.tv_cases.specs.LinearCases.{CaseSystem}
 use Rattle.tv_cert.specs.declared.claim.Claim.{Claim}
 use Rattle.tv_cert.specs.AimViews.{aim_states}
@@ -26,7 +28,8 @@ use Rattle.tv_pre.specs.declared.gap.Gap.{Gap}
 use Rattle.tv_pre.specs.declared.deciding.Unproved.TheVariants as unproved
 use Rattle.tv_pre.specs.declared.fault.PreFault.TheVariants as faults
 use Rattle.tv_pre.specs.Finding.{IsTameStatement, IsPlainProgram}
-use Rattle.tv_pre.specs.Proving.{IsUnproved}
+use Rattle.tv_pre.specs.Counted.{IsFewRefused}
+use Rattle.tv_pre.specs.Proving.{IsAskedOfClaim, IsUnproved}
 use Rattle.tv_pre.specs.Unserved.{IsRankingRefused}
 
 -- round k settles each fixpoint among the properties, and termination and its negation if they are among them
@@ -72,6 +75,14 @@ RefusalIsWithinSize about claim f budget =
     IsClaimOn about claim f → HasNoDraws about → HasParts f → (location pieces : ℕ) →
     IsUnproved about claim budget (unproved.Refused (faults.Region (regions.Disjuncts location pieces))) →
     (n : ℕ) → IsSize about f n → (budget.disjuncts < pieces) × (pieces ≤ n)
+
+-- Where no case has a draw, and each conjunction and disjunction of the property has a part, a question that a claim of it is refused for is
+-- one of the claim with no more targets at each location than the size of the property.
+abbrev pub QuestionIsWithinSize : CaseSystem → Claim → Property → Budget → Type 0
+QuestionIsWithinSize about claim f budget =
+    IsClaimOn about claim f → HasNoDraws about → HasParts f → (fault : CoverFault) → (fault ≡ covers.Memory → ⊥) →
+    IsUnproved about claim budget (unproved.Refused (faults.Cover fault)) →
+    (n : ℕ) → IsSize about f n → IsFewRefused about budget (IsAskedOfClaim about claim) (λ l. n) fault
 
 -- in a program without a cycle the round of the number of locations is settled
 abbrev pub AcyclicIsSettled : CaseSystem → Path → Shape → (State → Type 0) → (State → Type 0) → Type 0

@@ -132,7 +132,7 @@ fn each_found(search: &Search, arguments: Arguments) -> Result<Found, PreFault>
         IsRefusedFor about search.now.setting.now.budget.now search.now.last (statements.each_of (statements_of ss)) fault) }
     ensures counted { let about = system_of search.now in
         IfErr result (λ fault. (ss : List Statement) → AreArguments about search.now.last ss arguments →
-        IsCountedFor about (statements.each_of (statements_of ss)) fault) }
+        IsCountedFor about search.now.setting.now.budget.now search.now.last (statements.each_of (statements_of ss)) fault) }
 {
     let Arguments {
         regions,
@@ -161,7 +161,7 @@ fn some_found(search: &Search, arguments: Arguments) -> Result<Found, PreFault>
         IsRefusedFor about search.now.setting.now.budget.now search.now.last (statements.one_of (statements_of ss)) fault) }
     ensures counted { let about = system_of search.now in
         IfErr result (λ fault. (ss : List Statement) → AreArguments about search.now.last ss arguments →
-        IsCountedFor about (statements.one_of (statements_of ss)) fault) }
+        IsCountedFor about search.now.setting.now.budget.now search.now.last (statements.one_of (statements_of ss)) fault) }
 {
     let Arguments {
         regions,
@@ -203,7 +203,8 @@ fn after_found(search: &Search, path: Path, child: Found) -> Result<Found, PreFa
         IfErr result (λ fault. (s : Statement) → IsFound about search.now.last s child →
         IsRefusedFor about search.now.setting.now.budget.now search.now.last (statements.after path s) fault) }
     ensures counted { let about = system_of search.now in
-        IfErr result (λ fault. (s : Statement) → IsFound about search.now.last s child → IsCountedFor about (statements.after path s) fault) }
+        IfErr result (λ fault. (s : Statement) → IsFound about search.now.last s child →
+        IsCountedFor about search.now.setting.now.budget.now search.now.last (statements.after path s) fault) }
 {
     // From this call it is known that the cases are proper.
     let _variables = search.setting.about.variables();
@@ -258,7 +259,7 @@ fn along_found(
         IsRefusedFor about search.now.setting.now.budget.now search.now.last (statements.along path shape s t) fault) }
     ensures counted { let about = system_of search.now in
         IfErr result (λ fault. (s t : Statement) → IsFound about search.now.last s first → IsFound about search.now.last t second →
-        IsCountedFor about (statements.along path shape s t) fault) }
+        IsCountedFor about search.now.setting.now.budget.now search.now.last (statements.along path shape s t) fault) }
 {
     // From this call it is known that the cases are proper.
     let _variables = search.setting.about.variables();
@@ -303,7 +304,8 @@ fn all_found(search: &Search, aims: &[Aim]) -> Result<Arguments, PreFault>
     ensures refused_one { let about = system_of search.now in
         let s = statements.one_of (aims_state aims.now) in
         IfErr result (IsRefusedFor about search.now.setting.now.budget.now search.now.last s) }
-    ensures counted { IfErr result (AreCountedFor (system_of search.now) (aims_state aims.now)) }
+    ensures counted { let about = system_of search.now in
+        IfErr result (AreCountedFor about search.now.setting.now.budget.now search.now.last (aims_state aims.now)) }
 {
     let mut founds = Vec::new(search.setting.alloc);
     'aims: for aim in aims {
@@ -328,7 +330,8 @@ fn found_next(search: &Search, aim: &Aim, earlier: &Aim, before: &Found) -> Resu
     ensures known { IfOk result (HasKnownStates (system_of search.now) search.now.last search.now.alone (aim_states aim.now)) }
     ensures refused { let about = system_of search.now in
         IfErr result (IsRefusedFor about search.now.setting.now.budget.now search.now.last (aim_states aim.now)) }
-    ensures counted { IfErr result (IsCountedFor (system_of search.now) (aim_states aim.now)) }
+    ensures counted { let about = system_of search.now in
+        IfErr result (IsCountedFor about search.now.setting.now.budget.now search.now.last (aim_states aim.now)) }
 {
     match found_alike(search, earlier, before, aim)? {
         Some(again) => Ok(again),
@@ -345,7 +348,8 @@ fn found_of(search: &Search, aim: &Aim) -> Result<Found, PreFault>
     ensures known { IfOk result (HasKnownStates (system_of search.now) search.now.last search.now.alone (aim_states aim.now)) }
     ensures refused { let about = system_of search.now in
         IfErr result (IsRefusedFor about search.now.setting.now.budget.now search.now.last (aim_states aim.now)) }
-    ensures counted { IfErr result (IsCountedFor (system_of search.now) (aim_states aim.now)) }
+    ensures counted { let about = system_of search.now in
+        IfErr result (IsCountedFor about search.now.setting.now.budget.now search.now.last (aim_states aim.now)) }
 {
     match aim {
         Aim::Rows(lists) => atom_found(search, &Test::Rows(lists)),
@@ -434,7 +438,9 @@ pub fn found(setting: &Setting, aim: &Aim) -> Result<Found, PreFault>
     ensures refused { let system = cases_of setting.now.about.now in
         IfErr result (λ fault. (last : ℕ) → IsLastRound system 8 last →
         IsRefusedFor system setting.now.budget.now last (aim_states aim.now) fault) }
-    ensures counted { IfErr result (IsCountedFor (cases_of setting.now.about.now) (aim_states aim.now)) }
+    ensures counted { let system = cases_of setting.now.about.now in
+        IfErr result (λ fault. (last : ℕ) → IsLastRound system 8 last →
+        IsCountedFor system setting.now.budget.now last (aim_states aim.now) fault) }
 {
     // From this call it is known that the cases are proper.
     let _variables = setting.about.variables();

@@ -11,7 +11,7 @@ ghost use Rattle.tv_pre.specs.declared.gap.Gap.{Gap};
 ghost use Rattle.tv_linear.specs.declared.region.Region.{Region};
 ghost use Rattle.tv_pre.specs.Full.{FullHasAll, FullTell};
 ghost use Rattle.tv_pre.specs.Sized.{FewIsWithinSize};
-ghost use Rattle.tv_pre.specs.Told.{AcyclicIsSettled, NoneIsUnsettled, SettledIsTold, DecidedIsTold, PlainIsTold, RankedUntilIsTold, AcyclicIsRanked, AcyclicIsUnrefused, RefusalIsWithinSize};
+ghost use Rattle.tv_pre.specs.Told.{AcyclicIsSettled, NoneIsUnsettled, SettledIsTold, DecidedIsTold, PlainIsTold, RankedUntilIsTold, AcyclicIsRanked, AcyclicIsUnrefused, RefusalIsWithinSize, QuestionIsWithinSize};
 
 use tv_known::Sides;
 
@@ -69,4 +69,11 @@ pub fn regions_are_within_size()
 pub fn refusals_are_within_size()
     ensures { (about : CaseSystem) → AreCases about → (claim : Claim) (f : Property) (budget : Budget) →
         RefusalIsWithinSize about claim f budget }
+{}
+
+/// Where no case has a draw, a question that a claim of such a property is refused for has no more targets at a location than the size of the
+/// property. Those of a cover or a choice are pieces of a region of the claim's.
+pub fn questions_are_within_size()
+    ensures { (about : CaseSystem) → AreCases about → (claim : Claim) (f : Property) (budget : Budget) →
+        QuestionIsWithinSize about claim f budget }
 {}

@@ -1,6 +1,6 @@
 // Fixpoints that are to come to an end, where all states are ranked.
 
-ghost use Rattle.std.specs.Prelude.{◌≡◌, ◌≤◌, [], ◌∷◌, true, IsTrue, IsFalse, IfOk};
+ghost use Rattle.std.specs.Prelude.{◌≡◌, ℕ, ◌+◌, ◌≤◌, [], ◌∷◌, true, IsTrue, IsFalse, IfOk};
 ghost use Rattle.std.specs.Result.{IfErr};
 ghost use Rattle.tv_formula.specs.declared.tree.Path.TheVariants.{Every};
 ghost use Rattle.tv_cases.specs.Systems.{cases_of};
@@ -8,7 +8,7 @@ ghost use Rattle.tv_known.specs.Rounds.{must_end};
 ghost use Rattle.tv_lexrank.specs.Nodes.{IsRankedBy};
 ghost use Rattle.tv_region.specs.Regions.{IsRegion};
 ghost use Rattle.tv_pre.specs.Along.{arguments, AreAtEnd};
-ghost use Rattle.tv_pre.specs.Counted.{IsNoCall, IsCountedGoing, IsCountedAlong, IsUntoldCount};
+ghost use Rattle.tv_pre.specs.Counted.{IsCountedGoing, IsCountedBetween, IsCountedAlong, IsUntoldCount};
 ghost use Rattle.tv_pre.specs.Built.{IsBuiltOf, IsFaultOf};
 ghost use Rattle.tv_pre.specs.Fixed.{AreOver};
 ghost use Rattle.tv_pre.specs.Parts.{joined_pieces};
@@ -68,7 +68,7 @@ fn have_all(setting: &Setting, end: &Region, onward: &Region) -> Result<bool, Pr
         IfOk result (λ all. IsTrue all → HasAll about (joined_pieces (end.now ∷ onward.now ∷ []))) }
     ensures others { IfOk result (λ all. IsFalse all → SomeIsOutside (cases_of setting.now.about.now) end.now onward.now) }
     ensures refused { IfErr result (IsFaultOf (cases_of setting.now.about.now) setting.now.budget.now 0 (end.now ∷ onward.now ∷ [])) }
-    ensures no_call { IfErr result IsNoCall }
+    ensures counted { IfErr result (IsCountedBetween (cases_of setting.now.about.now) setting.now.budget.now end.now onward.now) }
 {
     let anywhere = everywhere(setting.alloc, setting.about)?;
     Ok(lie_between(setting, &anywhere.pieces, end, onward)?)
@@ -89,13 +89,15 @@ pub(crate) fn ranked_along(
     requires sides { AreOver (cases_of setting.now.about.now) sides.now }
     requires end { AreAtEnd (cases_of setting.now.about.now) sides.now end }
     requires end_few { IsFewEnd sides.now end }
+    requires built { IsBuiltOf (cases_of setting.now.about.now) 0 (arguments sides.now) end }
     requires ranked { IsRankedBy (cases_of setting.now.about.now) [] ranking.now.node.now ranking.now.shown.now }
     ensures along { IfOk result (IsRankedAlong (cases_of setting.now.about.now) sides.now children.items end) }
     ensures bounded { IfOk result (IsFewRanked (cases_of setting.now.about.now) sides.now) }
     ensures untold { IfOk result (IsUntoldAlong (cases_of setting.now.about.now) setting.now.budget.now sides.now end) }
-    ensures untold_count { IfOk result (IsUntoldCount (cases_of setting.now.about.now) sides.now) }
+    ensures untold_count { IfOk result (IsUntoldCount (cases_of setting.now.about.now) setting.now.budget.now sides.now) }
     ensures refused { IfErr result (IsFaultOf (cases_of setting.now.about.now) setting.now.budget.now 2 (end ∷ arguments sides.now)) }
-    ensures counted { IfErr result (IsCountedAlong (cases_of setting.now.about.now) sides.now) }
+    ensures counted { let about = cases_of setting.now.about.now in
+        IfErr result (λ fault. (most : ℕ) → IsCountedAlong about setting.now.budget.now (most + 2) sides.now fault) }
 {
     let _variables = setting.about.variables();
     let onward = going(setting, sides)?;

@@ -60,7 +60,8 @@ fn ends_in_rounds(search: &Search, anywhere: &Region, stops: Region) -> Result<F
     ensures known { IfOk result (IsKnownIfUnranked (system_of search.now) search.now.last search.now.alone statements.ends) }
     ensures refused { let about = system_of search.now in
         IfErr result (IsRefusedFor about search.now.setting.now.budget.now search.now.last statements.ends) }
-    ensures counted { IfErr result (IsCountedFor (system_of search.now) statements.ends) }
+    ensures counted { let about = system_of search.now in
+        IfErr result (IsCountedFor about search.now.setting.now.budget.now search.now.last statements.ends) }
 {
     let setting = search.setting;
     let _variables = setting.about.variables();
@@ -95,7 +96,8 @@ fn ends_unranked(search: &Search) -> Result<Found, PreFault>
     ensures known { IfOk result (IsKnownIfUnranked (system_of search.now) search.now.last search.now.alone statements.ends) }
     ensures refused { let about = system_of search.now in
         IfErr result (IsRefusedFor about search.now.setting.now.budget.now search.now.last statements.ends) }
-    ensures counted { IfErr result (IsCountedFor (system_of search.now) statements.ends) }
+    ensures counted { let about = system_of search.now in
+        IfErr result (IsCountedFor about search.now.setting.now.budget.now search.now.last statements.ends) }
 {
     let setting = search.setting;
     let _variables = setting.about.variables();
@@ -121,7 +123,8 @@ fn never_in_rounds(search: &Search, none: &Region, goes: &Region) -> Result<Foun
     ensures known { IfOk result (IsKnownIfUnranked (system_of search.now) search.now.last search.now.alone statements.never_ends) }
     ensures refused { let about = system_of search.now in
         IfErr result (IsRefusedFor about search.now.setting.now.budget.now search.now.last statements.never_ends) }
-    ensures counted { IfErr result (IsCountedFor (system_of search.now) statements.never_ends) }
+    ensures counted { let about = system_of search.now in
+        IfErr result (IsCountedFor about search.now.setting.now.budget.now search.now.last statements.never_ends) }
 {
     let setting = search.setting;
     let _variables = setting.about.variables();
@@ -159,7 +162,8 @@ fn never_unranked(search: &Search) -> Result<Found, PreFault>
     ensures known { IfOk result (IsKnownIfUnranked (system_of search.now) search.now.last search.now.alone statements.never_ends) }
     ensures refused { let about = system_of search.now in
         IfErr result (IsRefusedFor about search.now.setting.now.budget.now search.now.last statements.never_ends) }
-    ensures counted { IfErr result (IsCountedFor (system_of search.now) statements.never_ends) }
+    ensures counted { let about = system_of search.now in
+        IfErr result (IsCountedFor about search.now.setting.now.budget.now search.now.last statements.never_ends) }
 {
     let setting = search.setting;
     let _variables = setting.about.variables();
@@ -197,7 +201,8 @@ fn ends_anew(search: &Search) -> Result<Found, PreFault>
         IfOk result (λ found. IsKnownFor about search.now.last search.now.alone statements.ends found.part.region) }
     ensures refused { let about = system_of search.now in
         IfErr result (IsRefusedFor about search.now.setting.now.budget.now search.now.last statements.ends) }
-    ensures counted { IfErr result (IsCountedFor (system_of search.now) statements.ends) }
+    ensures counted { let about = system_of search.now in
+        IfErr result (IsCountedFor about search.now.setting.now.budget.now search.now.last statements.ends) }
 {
     match ranks_of(search.setting)? {
         Ranks::Known(ranking) => Ok(all_ended(search, ranking.node)?),
@@ -220,7 +225,8 @@ fn ends_known(search: &Search, ranking: &Ranking) -> Result<Found, PreFault>
         IfOk result (λ found. IsKnownFor about search.now.last search.now.alone statements.ends found.part.region) }
     ensures refused { let about = system_of search.now in
         IfErr result (IsRefusedFor about search.now.setting.now.budget.now search.now.last statements.ends) }
-    ensures counted { IfErr result (IsCountedFor (system_of search.now) statements.ends) }
+    ensures counted { let about = system_of search.now in
+        IfErr result (IsCountedFor about search.now.setting.now.budget.now search.now.last statements.ends) }
 {
     let node = copy_node(search.setting.alloc, &ranking.node)?;
     Ok(all_ended(search, node)?)
@@ -234,7 +240,8 @@ pub(crate) fn ends_found(search: &Search) -> Result<Found, PreFault>
         IfOk result (λ found. IsKnownFor about search.now.last search.now.alone statements.ends found.part.region) }
     ensures refused { let about = system_of search.now in
         IfErr result (IsRefusedFor about search.now.setting.now.budget.now search.now.last statements.ends) }
-    ensures counted { IfErr result (IsCountedFor (system_of search.now) statements.ends) }
+    ensures counted { let about = system_of search.now in
+        IfErr result (IsCountedFor about search.now.setting.now.budget.now search.now.last statements.ends) }
 {
     match search.ranks {
         Some(Ranks::Known(ranking)) => ends_known(search, ranking),
@@ -266,7 +273,8 @@ fn never_anew(search: &Search) -> Result<Found, PreFault>
         IfOk result (λ found. IsKnownFor about search.now.last search.now.alone statements.never_ends found.part.region) }
     ensures refused { let about = system_of search.now in
         IfErr result (IsRefusedFor about search.now.setting.now.budget.now search.now.last statements.never_ends) }
-    ensures counted { IfErr result (IsCountedFor (system_of search.now) statements.never_ends) }
+    ensures counted { let about = system_of search.now in
+        IfErr result (IsCountedFor about search.now.setting.now.budget.now search.now.last statements.never_ends) }
 {
     match ranks_of(search.setting)? {
         Ranks::Known(ranking) => Ok(never_ranked(search, &ranking)?),
@@ -289,7 +297,8 @@ pub(crate) fn never_found(search: &Search) -> Result<Found, PreFault>
         IfOk result (λ found. IsKnownFor about search.now.last search.now.alone statements.never_ends found.part.region) }
     ensures refused { let about = system_of search.now in
         IfErr result (IsRefusedFor about search.now.setting.now.budget.now search.now.last statements.never_ends) }
-    ensures counted { IfErr result (IsCountedFor (system_of search.now) statements.never_ends) }
+    ensures counted { let about = system_of search.now in
+        IfErr result (IsCountedFor about search.now.setting.now.budget.now search.now.last statements.never_ends) }
 {
     match search.ranks {
         Some(Ranks::Known(ranking)) => Ok(never_ranked(search, ranking)?),

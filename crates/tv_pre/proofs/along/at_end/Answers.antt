@@ -1,4 +1,4 @@
-use Rattle.std.proofs.Common.{◌⊎◌, inl, inr, ◌+◌, ◌∷◌, [], ◌++◌, sym, ap, subst, arith, length, ◌≤◌}
+use Rattle.std.proofs.Common.{ℕ, ◌⊎◌, inl, inr, ◌+◌, ◌∷◌, [], ◌++◌, sym, ap, subst, arith, length, ◌≤◌}
 use Rattle.tv_cases.specs.Systems.{cases_of}
 use Rattle.tv_pre.specs.Questions.{Question}
 use Rattle.tv_pre.specs.Along.{arguments}
@@ -9,10 +9,12 @@ use Rattle.tv_pre.specs.Built.{AreBuilt, IsFaultOf, of_nowhere}
 use Rattle.tv_pre.proofs.BuiltLemmas.{first_built, rest_built, first_alone, pieces_of, joined_of, more_built, one_built, asked_one, all_built_to}
 use Rattle.tv_pre.proofs.PassedLemmas.{passed_on, cover_fault}
 use Rattle.tv_pre.proofs.AskedLemmas.{ends_asked, staying_asked}
-use Rattle.tv_pre.proofs.AlongLemmas.{is_along, no_onward, one_joined}
+use Rattle.tv_pre.proofs.AlongLemmas.{asked_less, is_along, no_onward, one_joined}
 use Rattle.tv_pre.proofs.SizedLemmas.{ended_few, none_joined, nowhere_joined}
 use Rattle.tv_pre.specs.Counted.{IsCountedAlong}
 use Rattle.tv_pre.proofs.CountedLemmas.{cover_along}
+use Rattle.tv_pre.specs.declared.fault.PreFault.{PreFault}
+use Rattle.tv_pre.proofs.FewTargets.{ends_targets, bare_targets}
 use Rattle.tv_pre.proofs.along.at_end.Goals as goal
 
 pub until-requires-clause-layers : goal.until-requires-clause-layers
@@ -97,11 +99,37 @@ returns-in_ok-weak-clause-bounded c =
 pub returns-in_err-until-clause-counted : goal.returns-in_err-until-clause-counted
 returns-in_err-until-clause-counted c =
     let about = cases_of c.args.setting.now.about.now in
+    let budget = c.args.setting.now.budget.now in
     let sides = c.args.sides.now in
-    passed_on (IsCountedAlong about sides) c.from_residual.result c.from_residual.ensures.1 (cover_along about sides c.in_err-until.field-0.0)
+    let end = c.args.end in
+    let asks = λ (a : Question). (AsksEnds sides end.pieces.items a ⊎ AsksLayers about sides end.pieces.items c.new.result.items a) in
+    passed_on (λ (r : PreFault). (most : ℕ) → IsCountedAlong about budget (most + 2) sides r) c.from_residual.result c.from_residual.ensures.1
+    (λ r is most. cover_along about sides budget (most + 2) asks
+    (λ a w. asked_less about 1 (most + 2) end (arguments sides) a (omega arith) c.requires.built (λ s h m. asked_one about s h a (elim w [
+      | inl x ↦ ends_asked about s h sides (rest_built about s h end (arguments sides) m) end.pieces.items a (pieces_of about s h end (first_built about s h end (arguments sides) m)) x
+      | inr x ↦ absurd (subst (λ ls. AsksLayers about sides end.pieces.items ls a) c.new.ensures.items x)
+    ])))
+    (λ plain last o f g full a w. elim w [
+      | inl x ↦ ends_targets about sides last f g full end.pieces.items a x
+      | inr x ↦ absurd (subst (λ ls. AsksLayers about sides end.pieces.items ls a) c.new.ensures.items x)
+    ])
+    c.in_err-until.field-0.0 r is c.in_err-until.ensures.refusals)
 
 pub returns-in_err-weak-clause-counted : goal.returns-in_err-weak-clause-counted
 returns-in_err-weak-clause-counted c =
     let about = cases_of c.args.setting.now.about.now in
+    let budget = c.args.setting.now.budget.now in
     let sides = c.args.sides.now in
-    passed_on (IsCountedAlong about sides) c.from_residual-in_err-weak.result c.from_residual-in_err-weak.ensures.1 (cover_along about sides c.in_err-weak.field-0.0)
+    let end = c.args.end in
+    let none = c.nowhere.result in
+    let own = joined_pieces (end ∷ none ∷ []) in
+    passed_on (λ (r : PreFault). (most : ℕ) → IsCountedAlong about budget (most + 2) sides r) c.from_residual-in_err-weak.result c.from_residual-in_err-weak.ensures.1
+    (λ r is most. cover_along about sides budget (most + 2) (AsksStaying about sides end.pieces.items none.pieces.items own)
+    (λ a w. asked_less about 1 (most + 2) end (arguments sides) a (omega arith) c.requires.built (λ s h m.
+    (let first = first_built about s h end (arguments sides) m in
+    let second = of_nowhere h none c.nowhere.ensures in
+    let both = more_built about s h end (none ∷ []) first (one_built about s h none second) in
+    asked_one about s h a
+    (staying_asked about s h sides (rest_built about s h end (arguments sides) m) end.pieces.items none.pieces.items own a (pieces_of about s h end first) (pieces_of about s h none second) (joined_of about s h (end ∷ none ∷ []) both) w))))
+    (λ plain last o f g full a w. bare_targets about sides last f g full end.pieces.items none.pieces.items own a c.nowhere.ensures.none w)
+    c.in_err-weak.field-0.0 r is c.in_err-weak.ensures.refusals)

@@ -1,4 +1,4 @@
-use Rattle.std.proofs.Common.{refl, ◌+◌, subst, arith}
+use Rattle.std.proofs.Common.{refl, sym, ◌+◌, subst, arith}
 use Rattle.tv_pre.specs.Along.{arguments}
 use Rattle.tv_pre.specs.Built.{IsFaultOf}
 use Rattle.tv_pre.specs.KnownStates.{IsNotRanked}
@@ -10,7 +10,7 @@ use Rattle.tv_pre.proofs.PassedLemmas.{passed_on}
 use Rattle.tv_formula.specs.Properties.{fix}
 use Rattle.tv_pre.proofs.FullAlongLemmas.{all_full}
 use Rattle.tv_pre.proofs.KnownAlongLemmas.{everywhere_known, beside_none, tame_cases, whatever_gap, without_gap}
-use Rattle.tv_pre.specs.Counted.{IsUntoldCount}
+use Rattle.tv_pre.specs.Counted.{IsCountedAlong, IsUntoldCount}
 use Rattle.tv_pre.proofs.along.by_ranks.Goals as goal
 
 pub returns-in_err-part-clause-refused : goal.returns-in_err-part-clause-refused
@@ -52,8 +52,15 @@ returns-in-Some-clause-refused c =
 pub returns-in-Everywhere-clause-bounded : goal.returns-in-Everywhere-clause-bounded
 returns-in-Everywhere-clause-bounded c = subst (IsFewRanked (system_of c.args.search.now) c.args.sides.now) c.in-Everywhere.is c.in_ok-part.ensures.bounded
 
+pub returns-in_err-part-clause-counted : goal.returns-in_err-part-clause-counted
+returns-in_err-part-clause-counted c =
+    let P = IsCountedAlong (system_of c.args.search.now) c.args.search.now.setting.now.budget.now (c.args.search.now.last + 2) c.args.sides.now in
+    passed_on P c.from_residual.result c.from_residual.ensures.1 (λ r is. subst P (sym is) (c.in_err-part.ensures.counted c.args.search.now.last))
+
 pub returns-in-Some-clause-counted : goal.returns-in-Some-clause-counted
-returns-in-Some-clause-counted c = subst (IsUntoldCount (system_of c.args.search.now) c.args.sides.now) c.in-Untold.is c.in_ok-part.ensures.untold_count
+returns-in-Some-clause-counted c =
+    let told = subst (IsUntoldCount (system_of c.args.search.now) c.args.search.now.setting.now.budget.now c.args.sides.now) c.in-Untold.is c.in_ok-part.ensures.untold_count in
+    told c.args.search.now.last
 
 pub returns-in-Everywhere-clause-known : goal.returns-in-Everywhere-clause-known
 returns-in-Everywhere-clause-known c s h m tame =

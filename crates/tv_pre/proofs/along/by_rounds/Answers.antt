@@ -1,4 +1,4 @@
-use Rattle.std.proofs.Common.{◌+◌, subst, arith}
+use Rattle.std.proofs.Common.{◌+◌, sym, subst, arith}
 use Rattle.tv_pre.specs.Search.{system_of}
 use Rattle.tv_pre.specs.Along.{arguments}
 use Rattle.tv_pre.specs.Finding.{IsTameFor}
@@ -6,6 +6,7 @@ use Rattle.tv_pre.specs.Built.{IsFaultOf}
 use Rattle.tv_pre.proofs.PassedLemmas.{passed_on}
 use Rattle.tv_pre.proofs.AlongLemmas.{along_less, given_less}
 use Rattle.tv_pre.proofs.KnownAlongLemmas.{sides_tame}
+use Rattle.tv_pre.specs.Counted.{IsCountedAlong}
 use Rattle.tv_pre.proofs.along.by_rounds.Goals as goal
 
 pub returns-in_err-part-clause-refused : goal.returns-in_err-part-clause-refused
@@ -71,3 +72,8 @@ pub returns-then-not-is_tame-clause-known : goal.returns-then-not-is_tame-clause
 returns-then-not-is_tame-clause-known c s h m tame =
     let about = system_of c.args.search.now in
     absurd (c.is_tame.ensures.wild c.if-not-is_tame.true (sides_tame about c.args.sides.now c.args.end c.hold_of.result.now c.hold_of.ensures c.requires.built s h m tame))
+
+pub returns-in_err-part-clause-counted : goal.returns-in_err-part-clause-counted
+returns-in_err-part-clause-counted c =
+    let P = IsCountedAlong (system_of c.args.search.now) c.args.search.now.setting.now.budget.now (c.args.search.now.last + 2) c.args.sides.now in
+    passed_on P c.from_residual.result c.from_residual.ensures.1 (λ r is. subst P (sym is) (c.in_err-part.ensures.counted c.args.search.now.last))

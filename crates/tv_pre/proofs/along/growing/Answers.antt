@@ -7,14 +7,15 @@ use Rattle.tv_pre.specs.Growing.{AsksLayers}
 use Rattle.tv_pre.specs.Built.{IsFaultOf}
 use Rattle.tv_pre.proofs.PassedLemmas.{passed_on, cover_fault, fault_again}
 use Rattle.tv_pre.proofs.ExactLemmas.{open_sides}
-use Rattle.tv_pre.proofs.AlongLemmas.{open_rounds, first_layers, settled_layers, open_layers, until_asked, until_built, answer_built, is_along}
+use Rattle.tv_pre.proofs.AlongLemmas.{asked_less, open_rounds, first_layers, settled_layers, open_layers, until_asked, until_built, answer_built, is_along}
 use Rattle.tv_rounds.specs.Answers.{IsFullBy}
 use Rattle.tv_known.specs.Rounds.{must_end}
 use Rattle.tv_pre.proofs.FullAlongLemmas.{grown_full}
 use Rattle.tv_pre.proofs.KnownAlongLemmas.{settled_known, open_known}
-use Rattle.tv_pre.proofs.SizedLemmas.{grown_few, last_before}
+use Rattle.tv_pre.proofs.SizedLemmas.{grown_joined, grown_few, last_before}
 use Rattle.tv_pre.specs.Counted.{IsCountedAlong}
 use Rattle.tv_pre.proofs.CountedLemmas.{cover_along}
+use Rattle.tv_pre.proofs.FewTargets.{until_targets}
 use Rattle.tv_pre.proofs.along.growing.Goals as goal
 
 pub returns-in_err-layers-clause-refused : goal.returns-in_err-layers-clause-refused
@@ -164,14 +165,48 @@ returns-clause-bounded c =
 pub returns-in_err-part-in-Settled-clause-counted : goal.returns-in_err-part-in-Settled-clause-counted
 returns-in_err-part-in-Settled-clause-counted c =
     let about = system_of c.args.search.now in
+    let budget = c.args.search.now.setting.now.budget.now in
+    let last = c.args.search.now.last in
     let sides = c.args.sides.now in
-    passed_on (IsCountedAlong about sides) c.from_residual-in_err-part-in-Settled.result c.from_residual-in_err-part-in-Settled.ensures.1 (cover_along about sides c.in_err-part-in-Settled.field-0.0)
+    let end = c.args.end in
+    let layers = c.in-Settled.layers.items in
+    let limits = c.variables-variables.ensures.limits in
+    let rounds = c.in_ok-layers.ensures.rounds in
+    let told = settled_layers about last sides end c.in_ok-layers.field-0 c.in-Settled.region c.in-Settled.at c.in-Settled.layers c.in-Settled.is c.requires.shape rounds in
+    let count = told.layers.many in
+    let early = told.early in
+    let bounded : length layers ≤ last = omega (arith, count, early) in
+    let asks = λ (a : Question). (AsksEnds sides end.pieces.items a ⊎ AsksLayers about sides end.pieces.items layers a) in
+    passed_on (IsCountedAlong about budget (last + 2) sides) c.from_residual-in_err-part-in-Settled.result c.from_residual-in_err-part-in-Settled.ensures.1
+    (λ r is. cover_along about sides budget (last + 2) asks
+    (λ a w. asked_less about (last + 2) (last + 2) end (arguments sides) a (omega arith) c.requires.built
+    (λ s h m. until_asked about last sides end s h m layers (answer_built about last sides end s h m c.in_ok-layers.field-0 rounds layers bounded told.layers.each limits.cases) a w))
+    (until_targets about sides c.requires.shape limits.starts end layers
+    (grown_joined about sides end c.requires.end_few c.requires.shape rounds.point rounds.of layers told.layers.each (λ m o. last_before about last m (length layers) c.requires.search.last o bounded)))
+    c.in_err-part-in-Settled.field-0.0 r is c.in_err-part-in-Settled.ensures.refusals)
 
 pub returns-in_err-part-in-Open-clause-counted : goal.returns-in_err-part-in-Open-clause-counted
 returns-in_err-part-in-Open-clause-counted c =
     let about = system_of c.args.search.now in
+    let budget = c.args.search.now.setting.now.budget.now in
+    let last = c.args.search.now.last in
     let sides = c.args.sides.now in
-    passed_on (IsCountedAlong about sides) c.from_residual-in_err-part-in-Open.result c.from_residual-in_err-part-in-Open.ensures.1 (cover_along about sides c.in_err-part-in-Open.field-0.0)
+    let end = c.args.end in
+    let layers = c.in-Open.layers.items in
+    let limits = c.variables-variables.ensures.limits in
+    let rounds = c.in_ok-layers.ensures.rounds in
+    let told = open_layers about last sides end c.in_ok-layers.field-0 c.in-Open.region c.in-Open.layers c.in-Open.is c.requires.shape rounds in
+    let count = told.layers.many in
+    let early : last ≤ last = omega arith in
+    let bounded : length layers ≤ last = omega (arith, count, early) in
+    let asks = λ (a : Question). (AsksEnds sides end.pieces.items a ⊎ AsksLayers about sides end.pieces.items layers a) in
+    passed_on (IsCountedAlong about budget (last + 2) sides) c.from_residual-in_err-part-in-Open.result c.from_residual-in_err-part-in-Open.ensures.1
+    (λ r is. cover_along about sides budget (last + 2) asks
+    (λ a w. asked_less about (last + 2) (last + 2) end (arguments sides) a (omega arith) c.requires.built
+    (λ s h m. until_asked about last sides end s h m layers (answer_built about last sides end s h m c.in_ok-layers.field-0 rounds layers bounded told.layers.each limits.cases) a w))
+    (until_targets about sides c.requires.shape limits.starts end layers
+    (grown_joined about sides end c.requires.end_few c.requires.shape rounds.point rounds.of layers told.layers.each (λ m o. last_before about last m (length layers) c.requires.search.last o bounded)))
+    c.in_err-part-in-Open.field-0.0 r is c.in_err-part-in-Open.ensures.refusals)
 
 pub returns-in-Settled-clause-known : goal.returns-in-Settled-clause-known
 returns-in-Settled-clause-known c none =

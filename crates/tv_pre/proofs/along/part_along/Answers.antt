@@ -22,10 +22,12 @@ returns-in_err-end-clause-refused c =
 pub returns-in_err-end-clause-counted : goal.returns-in_err-end-clause-counted
 returns-in_err-end-clause-counted c =
     let about = system_of c.args.search.now in
+    let budget = c.args.search.now.setting.now.budget.now in
+    let last = c.args.search.now.last in
     let sides = c.args.sides.now in
-    let P = IsCountedAlong about sides in
+    let P = IsCountedAlong about budget (last + 2) sides in
     passed_on P c.from_residual.result c.from_residual.ensures.1
-    (λ r is. subst P (sym is) (end_along about sides c.in_err-end.field-0.0 c.in_err-end.ensures.counted))
+    (λ r is. subst P (sym is) (end_along about sides budget (last + 2) c.in_err-end.field-0.0 c.in_err-end.ensures.counted))
 
 pub returns-then-not-must_come-clause-known : goal.returns-then-not-must_come-clause-known
 returns-then-not-must_come-clause-known c s h m tame =

@@ -7,14 +7,15 @@ use Rattle.tv_pre.specs.Built.{IsFaultOf, IsPreFault}
 use Rattle.tv_pre.proofs.BuiltLemmas.{all_built_to, fault_to}
 use Rattle.tv_pre.proofs.PassedLemmas.{passed_on, cover_fault, fault_again}
 use Rattle.tv_pre.proofs.ExactLemmas.{open_sides}
-use Rattle.tv_pre.proofs.AlongLemmas.{open_rounds, open_round, settled_stays, settled_round, round_sides, round_built, weak_built, weak_asked, is_along, along_more}
+use Rattle.tv_pre.proofs.AlongLemmas.{asked_less, open_rounds, open_round, settled_stays, settled_round, round_sides, round_built, weak_built, weak_asked, is_along, along_more}
 use Rattle.tv_rounds.specs.Answers.{IsExactBy, IsFullBy}
 use Rattle.tv_known.specs.Rounds.{must_end}
 use Rattle.tv_pre.proofs.FullAlongLemmas.{shrunk_full}
 use Rattle.tv_pre.proofs.KnownAlongLemmas.{shrunk_known, shrunk_holding, none_known}
-use Rattle.tv_pre.proofs.SizedLemmas.{shrunk_few, one_later}
+use Rattle.tv_pre.proofs.SizedLemmas.{shrunk_joined, shrunk_few, one_later}
 use Rattle.tv_pre.specs.Counted.{IsCountedAlong}
 use Rattle.tv_pre.proofs.CountedLemmas.{cover_along, onward_along}
+use Rattle.tv_pre.proofs.FewTargets.{weak_targets}
 use Rattle.tv_pre.proofs.along.shrinking.Goals as goal
 
 pub returns-in_err-region-clause-refused : goal.returns-in_err-region-clause-refused
@@ -138,6 +139,7 @@ returns-in-Settled-clause-bounded c =
 pub returns-in_err-more-in-Settled-clause-counted : goal.returns-in_err-more-in-Settled-clause-counted
 returns-in_err-more-in-Settled-clause-counted c =
     let about = system_of c.args.search.now in
+    let budget = c.args.search.now.setting.now.budget.now in
     let last = c.args.search.now.last in
     let sides = c.args.sides.now in
     let end = c.args.end in
@@ -147,17 +149,35 @@ returns-in_err-more-in-Settled-clause-counted c =
     let limits = c.variables-variables.ensures.limits in
     let told = settled_round about last sides end c.in_ok-region.field-0 round at c.in-Settled.layers c.in-Settled.is c.requires.shape rounds in
     let fault = c.in_err-more-in-Settled.field-0.0 in
-    let P = IsCountedAlong about sides in
+    let P = IsCountedAlong about budget (last + 2) sides in
     passed_on P c.from_residual-in_err-more-in-Settled.result c.from_residual-in_err-more-in-Settled.ensures.1
     (λ r is. subst P (sym is)
-    (onward_along about sides end c.requires.end_few rounds.point rounds.of c.requires.shape at round told.round
+    (onward_along about sides end c.requires.end_few rounds.point rounds.of budget (last + 2) c.requires.shape at round told.round
     (λ m o. one_later about limits.cases last m at limits.starts c.requires.search.last o told.early false rounds.point told.open_before) fault c.in_err-more-in-Settled.ensures.counted))
 
 pub returns-in_err-part-in-Settled-clause-counted : goal.returns-in_err-part-in-Settled-clause-counted
 returns-in_err-part-in-Settled-clause-counted c =
     let about = system_of c.args.search.now in
+    let budget = c.args.search.now.setting.now.budget.now in
+    let last = c.args.search.now.last in
     let sides = c.args.sides.now in
-    passed_on (IsCountedAlong about sides) c.from_residual-in_err-part-in-Settled.result c.from_residual-in_err-part-in-Settled.ensures.1 (cover_along about sides c.in_err-part-in-Settled.field-0.0)
+    let end = c.args.end in
+    let round = c.in-Settled.region in
+    let at = c.in-Settled.at in
+    let more = c.in_ok-more-in-Settled.more in
+    let rounds = c.in_ok-region.ensures.rounds in
+    let limits = c.variables-variables.ensures.limits in
+    let told = settled_round about last sides end c.in_ok-region.field-0 round at c.in-Settled.layers c.in-Settled.is c.requires.shape rounds in
+    let asks = AsksStaying about sides end.pieces.items more.pieces.items (joined_pieces (end ∷ more ∷ [])) in
+    passed_on (IsCountedAlong about budget (last + 2) sides) c.from_residual-in_err-part-in-Settled.result c.from_residual-in_err-part-in-Settled.ensures.1
+    (λ r is. cover_along about sides budget (last + 2) asks
+    (λ a w. asked_less about (last + 2) (last + 2) end (arguments sides) a (omega arith) c.requires.built
+    (λ s h m. weak_asked about last sides end s h m more
+    (c.in_ok-more-in-Settled.ensures.built s (last + h) (round_sides about last sides end s h m round (round_built about last sides end s h m c.in_ok-region.field-0 rounds at round told.early told.round))) a w))
+    (weak_targets about sides c.requires.shape end more
+    (shrunk_joined about sides end c.requires.end_few c.requires.shape rounds.point rounds.of at round more told.round c.in_ok-more-in-Settled.ensures.bounded
+    (λ m o. one_later about limits.cases last m at limits.starts c.requires.search.last o told.early false rounds.point told.open_before)))
+    c.in_err-part-in-Settled.field-0.0 r is c.in_err-part-in-Settled.ensures.refusals)
 
 pub returns-in-Settled-clause-known : goal.returns-in-Settled-clause-known
 returns-in-Settled-clause-known c none =

@@ -9,7 +9,7 @@ use Rattle.tv_pre.proofs.LeftLemmas.{left_by, reported_gap}
 use Rattle.tv_pre.proofs.deciding.left.Goals as goal
 
 pub returns-in-Err : goal.returns-in-Err
-returns-in-Err c = inl (of_formula Memory (λ last h. tt) (λ plain last is f parts e. tt))
+returns-in-Err c = inl (of_formula Memory (λ last h. tt) (λ most first plain last is f parts e. tt))
 
 pub returns-in-Ok-Some : goal.returns-in-Ok-Some
 returns-in-Ok-Some c =

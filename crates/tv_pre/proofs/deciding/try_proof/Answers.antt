@@ -17,7 +17,7 @@ returns-in-Err-clause-refused c =
     let t = aim_states c.proved_aim.result.now in
     let s = aim_states c.args.claim.now.proved_aim in
     let e : t ≡ s = c.proved_aim.ensures ∙ sym c.args.claim.now.proved_stated in
-    of_formula c.in-Err.fault (fault_of about t s c.args.setting.now.budget.now c.in-Err.fault e c.in-Err.ensures.refused) (subst (λ u. IsCountedFor about u c.in-Err.fault) e c.in-Err.ensures.counted)
+    of_formula c.in-Err.fault (fault_of about t s c.args.setting.now.budget.now c.in-Err.fault e c.in-Err.ensures.refused) (λ last is. subst (λ u. IsCountedFor about c.args.setting.now.budget.now last u c.in-Err.fault) e (c.in-Err.ensures.counted last is))
 
 pub returns-in-Err-start_covered-clause-refused : goal.returns-in-Err-start_covered-clause-refused
 returns-in-Err-start_covered-clause-refused c =
@@ -26,7 +26,7 @@ returns-in-Err-start_covered-clause-refused c =
     let s = aim_states c.args.claim.now.proved_aim in
     let e : t ≡ s = c.proved_aim.ensures ∙ sym c.args.claim.now.proved_stated in
     let o = c.in-Ok.ensures in
-    of_start c.in-Ok.found c.in-Err-start_covered.fault (found_of about t s c.in-Ok.found e o.region o.part o.built o.size o.gap o.tells o.full o.known) c.in-Err-start_covered.ensures.refusals
+    of_start c.in-Ok.found c.in-Err-start_covered.fault (found_of about t s c.in-Ok.found e o.region o.part o.built o.size o.gap o.tells o.full o.known o.bounded) c.in-Err-start_covered.ensures.refusals
 
 pub returns-in-Ok-Hole-clause-tried : goal.returns-in-Ok-Hole-clause-tried
 returns-in-Ok-Hole-clause-tried c =
@@ -37,7 +37,7 @@ returns-in-Ok-Hole-clause-tried c =
     let o = c.in-Ok.ensures in
     record {
       found = c.in-Ok.found;
-      is = found_of about t s c.in-Ok.found e o.region o.part o.built o.size o.gap o.tells o.full o.known;
+      is = found_of about t s c.in-Ok.found e o.region o.part o.built o.size o.gap o.tells o.full o.known o.bounded;
       same = refl;
       values = c.in-Ok-Hole.field-0-0.items;
       outside = subst (StartAnswer about c.in-Ok.found.part.region.pieces.items) c.in-Ok-Hole.field-0-is c.in-Ok-Hole.ensures.answer;
@@ -55,4 +55,4 @@ proved_certificate-requires-clause-root c =
     root_of about f found.part.region found.part.node a.0 c.in-Ok-Tree.start part (few_operators _ _ f limits) a.1 a.2
 
 pub returns-in-Err-proved_certificate-clause-refused : goal.returns-in-Err-proved_certificate-clause-refused
-returns-in-Err-proved_certificate-clause-refused c = of_formula Memory (λ last h. tt) (λ plain last is f parts e. tt)
+returns-in-Err-proved_certificate-clause-refused c = of_formula Memory (λ last h. tt) (λ most o plain last is f parts e. tt)

@@ -79,77 +79,88 @@ found_of-returns-in_err-child-in-After-clause-refused t c =
 pub all_found-returns-in_err-found-clause-counted : goal.all_found-returns-in_err-found-clause-counted
 all_found-returns-in_err-found-clause-counted t c =
     let about = system_of c.args.search.now in
-    let P = AreCountedFor about (aims_state c.args.aims.now) in
+    let budget = c.args.search.now.setting.now.budget.now in
+    let last = c.args.search.now.last in
+    let P = AreCountedFor about budget last (aims_state c.args.aims.now) in
     passed_on P c.from_residual-in_err-found.result c.from_residual-in_err-found.ensures.1
-    (λ r is. subst P (sym is) (argument_counted about c.in_err-found.field-0.0 c.args.aims.now c.aims.aim-index c.aim-item.result c.aims-test.true c.aim-item.is c.in_err-found.ensures.counted))
+    (λ r is. subst P (sym is) (argument_counted about budget last c.in_err-found.field-0.0 c.args.aims.now c.aims.aim-index c.aim-item.result c.aims-test.true c.aim-item.is c.in_err-found.ensures.counted))
 
 pub found_of-returns-in_err-child-in-After-clause-counted : goal.found_of-returns-in_err-child-in-After-clause-counted
 found_of-returns-in_err-child-in-After-clause-counted t c =
     let about = system_of c.args.search.now in
+    let budget = c.args.search.now.setting.now.budget.now in
+    let last = c.args.search.now.last in
     let s = aim_states c.in-After.inner.value in
     let fault = c.in_err-child-in-After.field-0.0 in
     let e : aim_states c.args.aim.now ≡ statements.after c.in-After.path s =
     ap aim_states c.in-After.is ∙ ap aim_states (sym (rolls-After c.in-After.path c.in-After.inner)) ∙ fold-roll-Aim statements.Statement aim_node (Aim-F.After c.in-After.path c.in-After.inner) in
-    subst (λ (w : statements.Statement). IfErr c.from_residual-in_err-child-in-After.result (IsCountedFor about w)) (sym e)
-    (passed_on (IsCountedFor about (statements.after c.in-After.path s)) c.from_residual-in_err-child-in-After.result c.from_residual-in_err-child-in-After.ensures.1
-    (λ r is. subst (IsCountedFor about (statements.after c.in-After.path s)) (sym is) (after_argument_counted about fault c.in-After.path s (subst (λ (a : Aim). IsCountedFor about (aim_states a) fault) c.deref-in-After.ensures c.in_err-child-in-After.ensures.counted))))
+    subst (λ (w : statements.Statement). IfErr c.from_residual-in_err-child-in-After.result (IsCountedFor about budget last w)) (sym e)
+    (passed_on (IsCountedFor about budget last (statements.after c.in-After.path s)) c.from_residual-in_err-child-in-After.result c.from_residual-in_err-child-in-After.ensures.1
+    (λ r is. subst (IsCountedFor about budget last (statements.after c.in-After.path s)) (sym is) (after_argument_counted about budget last fault c.in-After.path s (subst (λ (a : Aim). IsCountedFor about budget last (aim_states a) fault) c.deref-in-After.ensures c.in_err-child-in-After.ensures.counted))))
 
 pub found_of-returns-in_err-arguments-in-EachOf-clause-counted : goal.found_of-returns-in_err-arguments-in-EachOf-clause-counted
 found_of-returns-in_err-arguments-in-EachOf-clause-counted t c =
     let about = system_of c.args.search.now in
+    let budget = c.args.search.now.setting.now.budget.now in
+    let last = c.args.search.now.last in
     let aims = c.in-EachOf.aims.items in
     let fault = c.in_err-arguments-in-EachOf.field-0.0 in
     let whole = statements.each_of (aims_state aims) in
     let e : aim_states c.args.aim.now ≡ whole =
     ap aim_states c.in-EachOf.is ∙ ap aim_states (sym (rolls-EachOf c.in-EachOf.aims)) ∙ fold-roll-Aim statements.Statement aim_node (Aim-F.EachOf c.in-EachOf.aims) in
-    subst (λ (w : statements.Statement). IfErr c.from_residual.result (IsCountedFor about w)) (sym e)
-    (passed_on (IsCountedFor about whole) c.from_residual.result c.from_residual.ensures.1
-    (λ r is. subst (IsCountedFor about whole) (sym is) (each_argument_counted about fault (aims_state aims) (subst (λ xs. AreCountedFor about (aims_state xs) fault) c.deref-in-EachOf.ensures.value c.in_err-arguments-in-EachOf.ensures.counted))))
+    subst (λ (w : statements.Statement). IfErr c.from_residual.result (IsCountedFor about budget last w)) (sym e)
+    (passed_on (IsCountedFor about budget last whole) c.from_residual.result c.from_residual.ensures.1
+    (λ r is. subst (IsCountedFor about budget last whole) (sym is) (each_argument_counted about budget last fault (aims_state aims) (subst (λ xs. AreCountedFor about budget last (aims_state xs) fault) c.deref-in-EachOf.ensures.value c.in_err-arguments-in-EachOf.ensures.counted))))
 
 pub found_of-returns-in_ok-arguments-in-EachOf-clause-counted : goal.found_of-returns-in_ok-arguments-in-EachOf-clause-counted
 found_of-returns-in_ok-arguments-in-EachOf-clause-counted t c =
     let about = system_of c.args.search.now in
+    let budget = c.args.search.now.setting.now.budget.now in
     let last = c.args.search.now.last in
     let aims = c.in-EachOf.aims.items in
     let arguments = c.in_ok-arguments-in-EachOf.arguments in
     let e : aim_states c.args.aim.now ≡ statements.each_of (aims_state aims) =
     ap aim_states c.in-EachOf.is ∙ ap aim_states (sym (rolls-EachOf c.in-EachOf.aims)) ∙ fold-roll-Aim statements.Statement aim_node (Aim-F.EachOf c.in-EachOf.aims) in
     let told : AreArguments about last (map aim_states aims) arguments = subst (λ xs. AreArguments about last (map aim_states xs) arguments) c.deref-in-EachOf.ensures.value c.in_ok-arguments-in-EachOf.ensures.found in
-    subst (λ (w : statements.Statement). IfErr c.each_found.result (IsCountedFor about w)) (sym e) (if_err c.each_found.result (λ x h. h (map aim_states aims) told) c.each_found.ensures.counted)
+    subst (λ (w : statements.Statement). IfErr c.each_found.result (IsCountedFor about budget last w)) (sym e) (if_err c.each_found.result (λ x h. h (map aim_states aims) told) c.each_found.ensures.counted)
 
 pub found_of-returns-in_err-arguments-in-OneOf-clause-counted : goal.found_of-returns-in_err-arguments-in-OneOf-clause-counted
 found_of-returns-in_err-arguments-in-OneOf-clause-counted t c =
     let about = system_of c.args.search.now in
+    let budget = c.args.search.now.setting.now.budget.now in
+    let last = c.args.search.now.last in
     let aims = c.in-OneOf.aims.items in
     let fault = c.in_err-arguments-in-OneOf.field-0.0 in
     let whole = statements.one_of (aims_state aims) in
     let e : aim_states c.args.aim.now ≡ whole =
     ap aim_states c.in-OneOf.is ∙ ap aim_states (sym (rolls-OneOf c.in-OneOf.aims)) ∙ fold-roll-Aim statements.Statement aim_node (Aim-F.OneOf c.in-OneOf.aims) in
-    subst (λ (w : statements.Statement). IfErr c.from_residual-in_err-arguments-in-OneOf.result (IsCountedFor about w)) (sym e)
-    (passed_on (IsCountedFor about whole) c.from_residual-in_err-arguments-in-OneOf.result c.from_residual-in_err-arguments-in-OneOf.ensures.1
-    (λ r is. subst (IsCountedFor about whole) (sym is) (one_argument_counted about fault (aims_state aims) (subst (λ xs. AreCountedFor about (aims_state xs) fault) c.deref-in-OneOf.ensures.value c.in_err-arguments-in-OneOf.ensures.counted))))
+    subst (λ (w : statements.Statement). IfErr c.from_residual-in_err-arguments-in-OneOf.result (IsCountedFor about budget last w)) (sym e)
+    (passed_on (IsCountedFor about budget last whole) c.from_residual-in_err-arguments-in-OneOf.result c.from_residual-in_err-arguments-in-OneOf.ensures.1
+    (λ r is. subst (IsCountedFor about budget last whole) (sym is) (one_argument_counted about budget last fault (aims_state aims) (subst (λ xs. AreCountedFor about budget last (aims_state xs) fault) c.deref-in-OneOf.ensures.value c.in_err-arguments-in-OneOf.ensures.counted))))
 
 pub found_of-returns-in_ok-arguments-in-OneOf-clause-counted : goal.found_of-returns-in_ok-arguments-in-OneOf-clause-counted
 found_of-returns-in_ok-arguments-in-OneOf-clause-counted t c =
     let about = system_of c.args.search.now in
+    let budget = c.args.search.now.setting.now.budget.now in
     let last = c.args.search.now.last in
     let aims = c.in-OneOf.aims.items in
     let arguments = c.in_ok-arguments-in-OneOf.arguments in
     let e : aim_states c.args.aim.now ≡ statements.one_of (aims_state aims) =
     ap aim_states c.in-OneOf.is ∙ ap aim_states (sym (rolls-OneOf c.in-OneOf.aims)) ∙ fold-roll-Aim statements.Statement aim_node (Aim-F.OneOf c.in-OneOf.aims) in
     let told : AreArguments about last (map aim_states aims) arguments = subst (λ xs. AreArguments about last (map aim_states xs) arguments) c.deref-in-OneOf.ensures.value c.in_ok-arguments-in-OneOf.ensures.found in
-    subst (λ (w : statements.Statement). IfErr c.some_found.result (IsCountedFor about w)) (sym e) (if_err c.some_found.result (λ x h. h (map aim_states aims) told) c.some_found.ensures.counted)
+    subst (λ (w : statements.Statement). IfErr c.some_found.result (IsCountedFor about budget last w)) (sym e) (if_err c.some_found.result (λ x h. h (map aim_states aims) told) c.some_found.ensures.counted)
 
 pub found_of-returns-in_ok-child-in-After-clause-counted : goal.found_of-returns-in_ok-child-in-After-clause-counted
 found_of-returns-in_ok-child-in-After-clause-counted t c =
     let about = system_of c.args.search.now in
+    let budget = c.args.search.now.setting.now.budget.now in
     let last = c.args.search.now.last in
     let s = aim_states c.in-After.inner.value in
     let child = c.in_ok-child-in-After.child in
     let e : aim_states c.args.aim.now ≡ statements.after c.in-After.path s =
     ap aim_states c.in-After.is ∙ ap aim_states (sym (rolls-After c.in-After.path c.in-After.inner)) ∙ fold-roll-Aim statements.Statement aim_node (Aim-F.After c.in-After.path c.in-After.inner) in
     let told = subst (λ (a : Aim). IsFound about last (aim_states a) child) c.deref-in-After.ensures c.in_ok-child-in-After.ensures.found in
-    subst (λ (w : statements.Statement). IfErr c.after_found.result (IsCountedFor about w)) (sym e) (if_err c.after_found.result (λ x h. h s told) c.after_found.ensures.counted)
+    subst (λ (w : statements.Statement). IfErr c.after_found.result (IsCountedFor about budget last w)) (sym e) (if_err c.after_found.result (λ x h. h s told) c.after_found.ensures.counted)
 
 pub all_found-returns-clause-found : goal.all_found-returns-clause-found
 all_found-returns-clause-found t c =
@@ -219,15 +230,17 @@ found_of-returns-in_err-front-in-Along-clause-refused t c =
 pub found_of-returns-in_err-front-in-Along-clause-counted : goal.found_of-returns-in_err-front-in-Along-clause-counted
 found_of-returns-in_err-front-in-Along-clause-counted t c =
     let about = system_of c.args.search.now in
+    let budget = c.args.search.now.setting.now.budget.now in
+    let last = c.args.search.now.last in
     let s = aim_states c.in-Along.first.value in
     let o = aim_states c.in-Along.second.value in
     let fault = c.in_err-front-in-Along.field-0.0 in
     let whole = statements.along c.in-Along.path c.in-Along.shape s o in
     let e : aim_states c.args.aim.now ≡ whole =
     ap aim_states c.in-Along.is ∙ ap aim_states (sym (rolls-Along c.in-Along.path c.in-Along.shape c.in-Along.first c.in-Along.second)) ∙ fold-roll-Aim statements.Statement aim_node (Aim-F.Along c.in-Along.path c.in-Along.shape c.in-Along.first c.in-Along.second) in
-    subst (λ (w : statements.Statement). IfErr c.from_residual-in_err-front-in-Along.result (IsCountedFor about w)) (sym e)
-    (passed_on (IsCountedFor about whole) c.from_residual-in_err-front-in-Along.result c.from_residual-in_err-front-in-Along.ensures.1
-    (λ r is. subst (IsCountedFor about whole) (sym is) (first_argument_counted about fault c.in-Along.path c.in-Along.shape s o (subst (λ (a : Aim). IsCountedFor about (aim_states a) fault) c.deref-then-not-must_end.ensures c.in_err-front-in-Along.ensures.counted))))
+    subst (λ (w : statements.Statement). IfErr c.from_residual-in_err-front-in-Along.result (IsCountedFor about budget last w)) (sym e)
+    (passed_on (IsCountedFor about budget last whole) c.from_residual-in_err-front-in-Along.result c.from_residual-in_err-front-in-Along.ensures.1
+    (λ r is. subst (IsCountedFor about budget last whole) (sym is) (first_argument_counted about budget last fault c.in-Along.path c.in-Along.shape s o (subst (λ (a : Aim). IsCountedFor about budget last (aim_states a) fault) c.deref-then-not-must_end.ensures c.in_err-front-in-Along.ensures.counted))))
 
 pub found_of-returns-in_err-back-in-Along-clause-refused : goal.found_of-returns-in_err-back-in-Along-clause-refused
 found_of-returns-in_err-back-in-Along-clause-refused t c =
@@ -247,15 +260,17 @@ found_of-returns-in_err-back-in-Along-clause-refused t c =
 pub found_of-returns-in_err-back-in-Along-clause-counted : goal.found_of-returns-in_err-back-in-Along-clause-counted
 found_of-returns-in_err-back-in-Along-clause-counted t c =
     let about = system_of c.args.search.now in
+    let budget = c.args.search.now.setting.now.budget.now in
+    let last = c.args.search.now.last in
     let s = aim_states c.in-Along.first.value in
     let o = aim_states c.in-Along.second.value in
     let fault = c.in_err-back-in-Along.field-0.0 in
     let whole = statements.along c.in-Along.path c.in-Along.shape s o in
     let e : aim_states c.args.aim.now ≡ whole =
     ap aim_states c.in-Along.is ∙ ap aim_states (sym (rolls-Along c.in-Along.path c.in-Along.shape c.in-Along.first c.in-Along.second)) ∙ fold-roll-Aim statements.Statement aim_node (Aim-F.Along c.in-Along.path c.in-Along.shape c.in-Along.first c.in-Along.second) in
-    subst (λ (w : statements.Statement). IfErr c.from_residual-in_err-back-in-Along.result (IsCountedFor about w)) (sym e)
-    (passed_on (IsCountedFor about whole) c.from_residual-in_err-back-in-Along.result c.from_residual-in_err-back-in-Along.ensures.1
-    (λ r is. subst (IsCountedFor about whole) (sym is) (second_argument_counted about fault c.in-Along.path c.in-Along.shape s o (subst (λ (a : Aim). IsCountedFor about (aim_states a) fault) c.deref-then-not-must_end-2.ensures c.in_err-back-in-Along.ensures.counted))))
+    subst (λ (w : statements.Statement). IfErr c.from_residual-in_err-back-in-Along.result (IsCountedFor about budget last w)) (sym e)
+    (passed_on (IsCountedFor about budget last whole) c.from_residual-in_err-back-in-Along.result c.from_residual-in_err-back-in-Along.ensures.1
+    (λ r is. subst (IsCountedFor about budget last whole) (sym is) (second_argument_counted about budget last fault c.in-Along.path c.in-Along.shape s o (subst (λ (a : Aim). IsCountedFor about budget last (aim_states a) fault) c.deref-then-not-must_end-2.ensures c.in_err-back-in-Along.ensures.counted))))
 
 pub found_of-returns-in_err-front-in-Along-2-clause-refused : goal.found_of-returns-in_err-front-in-Along-2-clause-refused
 found_of-returns-in_err-front-in-Along-2-clause-refused t c =
@@ -278,6 +293,8 @@ found_of-returns-in_err-front-in-Along-2-clause-refused t c =
 pub found_of-returns-in_err-front-in-Along-2-clause-counted : goal.found_of-returns-in_err-front-in-Along-2-clause-counted
 found_of-returns-in_err-front-in-Along-2-clause-counted t c =
     let about = system_of c.args.search.now in
+    let budget = c.args.search.now.setting.now.budget.now in
+    let last = c.args.search.now.last in
     let inner = c.of_arguments-inner.result in
     let outer = c.of_arguments-inner.ensures in
     let s = aim_states c.in-Along.first.value in
@@ -286,10 +303,10 @@ found_of-returns-in_err-front-in-Along-2-clause-counted t c =
     let whole = statements.along c.in-Along.path c.in-Along.shape s o in
     let e : aim_states c.args.aim.now ≡ whole =
     ap aim_states c.in-Along.is ∙ ap aim_states (sym (rolls-Along c.in-Along.path c.in-Along.shape c.in-Along.first c.in-Along.second)) ∙ fold-roll-Aim statements.Statement aim_node (Aim-F.Along c.in-Along.path c.in-Along.shape c.in-Along.first c.in-Along.second) in
-    subst (λ (w : statements.Statement). IfErr c.from_residual-in_err-front-in-Along-2.result (IsCountedFor about w)) (sym e)
-    (passed_on (IsCountedFor about whole) c.from_residual-in_err-front-in-Along-2.result c.from_residual-in_err-front-in-Along-2.ensures.1
-    (λ r is. subst (IsCountedFor about whole) (sym is) (first_argument_counted about fault c.in-Along.path c.in-Along.shape s o
-    (counted_outer c.args.search.now inner outer.setting s fault (subst (λ (a : Aim). IsCountedFor (system_of inner) (aim_states a) fault) c.deref-in-Along.ensures c.in_err-front-in-Along-2.ensures.counted)))))
+    subst (λ (w : statements.Statement). IfErr c.from_residual-in_err-front-in-Along-2.result (IsCountedFor about budget last w)) (sym e)
+    (passed_on (IsCountedFor about budget last whole) c.from_residual-in_err-front-in-Along-2.result c.from_residual-in_err-front-in-Along-2.ensures.1
+    (λ r is. subst (IsCountedFor about budget last whole) (sym is) (first_argument_counted about budget last fault c.in-Along.path c.in-Along.shape s o
+    (counted_outer c.args.search.now inner outer.setting outer.last s fault (subst (λ (a : Aim). IsCountedFor (system_of inner) inner.setting.now.budget.now inner.last (aim_states a) fault) c.deref-in-Along.ensures c.in_err-front-in-Along-2.ensures.counted)))))
 
 pub found_of-returns-in_err-back-in-Along-2-clause-refused : goal.found_of-returns-in_err-back-in-Along-2-clause-refused
 found_of-returns-in_err-back-in-Along-2-clause-refused t c =
@@ -312,6 +329,8 @@ found_of-returns-in_err-back-in-Along-2-clause-refused t c =
 pub found_of-returns-in_err-back-in-Along-2-clause-counted : goal.found_of-returns-in_err-back-in-Along-2-clause-counted
 found_of-returns-in_err-back-in-Along-2-clause-counted t c =
     let about = system_of c.args.search.now in
+    let budget = c.args.search.now.setting.now.budget.now in
+    let last = c.args.search.now.last in
     let inner = c.of_arguments-inner.result in
     let outer = c.of_arguments-inner.ensures in
     let s = aim_states c.in-Along.first.value in
@@ -320,14 +339,15 @@ found_of-returns-in_err-back-in-Along-2-clause-counted t c =
     let whole = statements.along c.in-Along.path c.in-Along.shape s o in
     let e : aim_states c.args.aim.now ≡ whole =
     ap aim_states c.in-Along.is ∙ ap aim_states (sym (rolls-Along c.in-Along.path c.in-Along.shape c.in-Along.first c.in-Along.second)) ∙ fold-roll-Aim statements.Statement aim_node (Aim-F.Along c.in-Along.path c.in-Along.shape c.in-Along.first c.in-Along.second) in
-    subst (λ (w : statements.Statement). IfErr c.from_residual-in_err-back-in-Along-2.result (IsCountedFor about w)) (sym e)
-    (passed_on (IsCountedFor about whole) c.from_residual-in_err-back-in-Along-2.result c.from_residual-in_err-back-in-Along-2.ensures.1
-    (λ r is. subst (IsCountedFor about whole) (sym is) (second_argument_counted about fault c.in-Along.path c.in-Along.shape s o
-    (counted_outer c.args.search.now inner outer.setting o fault (subst (λ (a : Aim). IsCountedFor (system_of inner) (aim_states a) fault) c.deref-in-Along-2.ensures c.in_err-back-in-Along-2.ensures.counted)))))
+    subst (λ (w : statements.Statement). IfErr c.from_residual-in_err-back-in-Along-2.result (IsCountedFor about budget last w)) (sym e)
+    (passed_on (IsCountedFor about budget last whole) c.from_residual-in_err-back-in-Along-2.result c.from_residual-in_err-back-in-Along-2.ensures.1
+    (λ r is. subst (IsCountedFor about budget last whole) (sym is) (second_argument_counted about budget last fault c.in-Along.path c.in-Along.shape s o
+    (counted_outer c.args.search.now inner outer.setting outer.last o fault (subst (λ (a : Aim). IsCountedFor (system_of inner) inner.setting.now.budget.now inner.last (aim_states a) fault) c.deref-in-Along-2.ensures c.in_err-back-in-Along-2.ensures.counted)))))
 
 pub found_of-returns-in_err-wider-in-Along-clause-counted : goal.found_of-returns-in_err-wider-in-Along-clause-counted
 found_of-returns-in_err-wider-in-Along-clause-counted t c =
     let about = system_of c.args.search.now in
+    let budget = c.args.search.now.setting.now.budget.now in
     let last = c.args.search.now.last in
     let s = aim_states c.in-Along.first.value in
     let o = aim_states c.in-Along.second.value in
@@ -336,12 +356,13 @@ found_of-returns-in_err-wider-in-Along-clause-counted t c =
     ap aim_states c.in-Along.is ∙ ap aim_states (sym (rolls-Along c.in-Along.path c.in-Along.shape c.in-Along.first c.in-Along.second)) ∙ fold-roll-Aim statements.Statement aim_node (Aim-F.Along c.in-Along.path c.in-Along.shape c.in-Along.first c.in-Along.second) in
     let one = subst (λ (a : Aim). IsFound about last (aim_states a) c.in_ok-front-in-Along.front) c.deref-then-not-must_end.ensures c.in_ok-front-in-Along.ensures.found in
     let other = subst (λ (a : Aim). IsFound about last (aim_states a) c.in_ok-back-in-Along.back) c.deref-then-not-must_end-2.ensures c.in_ok-back-in-Along.ensures.found in
-    subst (λ (w : statements.Statement). IfErr c.from_residual-in_err-wider-in-Along.result (IsCountedFor about w)) (sym e)
-    (passed_on (IsCountedFor about whole) c.from_residual-in_err-wider-in-Along.result c.from_residual-in_err-wider-in-Along.ensures.1 (λ r is. subst (IsCountedFor about whole) (sym is) (c.in_err-wider-in-Along.ensures.counted s o one other)))
+    subst (λ (w : statements.Statement). IfErr c.from_residual-in_err-wider-in-Along.result (IsCountedFor about budget last w)) (sym e)
+    (passed_on (IsCountedFor about budget last whole) c.from_residual-in_err-wider-in-Along.result c.from_residual-in_err-wider-in-Along.ensures.1 (λ r is. subst (IsCountedFor about budget last whole) (sym is) (c.in_err-wider-in-Along.ensures.counted s o one other)))
 
 pub found_of-returns-in_err-along-in-Along-clause-counted : goal.found_of-returns-in_err-along-in-Along-clause-counted
 found_of-returns-in_err-along-in-Along-clause-counted t c =
     let about = system_of c.args.search.now in
+    let budget = c.args.search.now.setting.now.budget.now in
     let inner = c.of_arguments-inner.result in
     let outer = c.of_arguments-inner.ensures in
     let last = c.args.search.now.last in
@@ -352,8 +373,8 @@ found_of-returns-in_err-along-in-Along-clause-counted t c =
     ap aim_states c.in-Along.is ∙ ap aim_states (sym (rolls-Along c.in-Along.path c.in-Along.shape c.in-Along.first c.in-Along.second)) ∙ fold-roll-Aim statements.Statement aim_node (Aim-F.Along c.in-Along.path c.in-Along.shape c.in-Along.first c.in-Along.second) in
     let one = found_outer c.args.search.now inner outer.setting outer.last s c.in_ok-front-in-Along-2.front (subst (λ (a : Aim). IsFound (system_of inner) inner.last (aim_states a) c.in_ok-front-in-Along-2.front) c.deref-in-Along.ensures c.in_ok-front-in-Along-2.ensures.found) in
     let other = found_outer c.args.search.now inner outer.setting outer.last o c.in_ok-back-in-Along-2.back (subst (λ (a : Aim). IsFound (system_of inner) inner.last (aim_states a) c.in_ok-back-in-Along-2.back) c.deref-in-Along-2.ensures c.in_ok-back-in-Along-2.ensures.found) in
-    subst (λ (w : statements.Statement). IfErr c.from_residual-in_err-along-in-Along.result (IsCountedFor about w)) (sym e)
-    (passed_on (IsCountedFor about whole) c.from_residual-in_err-along-in-Along.result c.from_residual-in_err-along-in-Along.ensures.1 (λ r is. subst (IsCountedFor about whole) (sym is) (c.in_err-along-in-Along.ensures.counted s o one other)))
+    subst (λ (w : statements.Statement). IfErr c.from_residual-in_err-along-in-Along.result (IsCountedFor about budget last w)) (sym e)
+    (passed_on (IsCountedFor about budget last whole) c.from_residual-in_err-along-in-Along.result c.from_residual-in_err-along-in-Along.ensures.1 (λ r is. subst (IsCountedFor about budget last whole) (sym is) (c.in_err-along-in-Along.ensures.counted s o one other)))
 
 pub found_of-returns-in_err-along-in-Along-clause-refused : goal.found_of-returns-in_err-along-in-Along-clause-refused
 found_of-returns-in_err-along-in-Along-clause-refused t c =

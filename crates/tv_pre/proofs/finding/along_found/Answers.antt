@@ -1,4 +1,4 @@
-use Rattle.std.proofs.Common.{◌≡◌, ◌∙◌, [], ◌∷◌, ◌++◌, ap, sym, subst, ◌+◌, None}
+use Rattle.std.proofs.Common.{◌≡◌, ◌∙◌, ℕ, [], ◌∷◌, ◌++◌, ap, sym, subst, ◌+◌, None}
 use Rattle.std.specs.Prelude.{IfSome}
 use Rattle.tv_formula.specs.Properties.{none, more}
 use Rattle.tv_cert.specs.Statements.{Statement}
@@ -10,7 +10,9 @@ use Rattle.tv_pre.specs.declared.gap.Gap.TheVariants.{Inexact, Open}
 use Rattle.tv_pre.proofs.GapAlongLemmas.{along_gap, own_open, said_of}
 use Rattle.tv_pre.proofs.PassedLemmas.{passed_on}
 use Rattle.tv_pre.proofs.FoundLemmas.{along_is_found, along_fault, none_of_two, none_behind, sides_built}
-use Rattle.tv_pre.specs.Counted.{IsWithin, IsCountedFor}
+use Rattle.tv_pre.specs.Questions.{Question}
+use Rattle.tv_pre.specs.Built.{AreBuilt, IsAsked}
+use Rattle.tv_pre.specs.Counted.{IsWithinFew, IsCountedFor}
 use Rattle.tv_known.specs.Sizes.{fix_count}
 use Rattle.tv_pre.proofs.CountedFormulas.{along_counted}
 use Rattle.tv_pre.specs.KnownStates.{IsKnownFor}
@@ -59,11 +61,16 @@ returns-clause-found c s t h g =
 pub returns-in_err-part-clause-counted : goal.returns-in_err-part-clause-counted
 returns-in_err-part-clause-counted c =
     let about = system_of c.args.search.now in
+    let budget = c.args.search.now.setting.now.budget.now in
     let last = c.args.search.now.last in
-    passed_on (λ fault. (s t : Statement) → IsFound about last s c.args.first → IsFound about last t c.args.second → IsCountedFor about (statements.along c.args.path c.args.shape s t) fault)
+    let path = c.args.path in
+    let shape = c.args.shape in
+    let asks = λ (a : Question). ((s : Statement) (h : ℕ) → AreBuilt about s h (c.args.first.part.region ∷ c.args.second.part.region ∷ []) → IsAsked about s ((last + 2) + h) a) in
+    passed_on (λ fault. (s t : Statement) → IsFound about last s c.args.first → IsFound about last t c.args.second → IsCountedFor about budget last (statements.along path shape s t) fault)
     c.from_residual-in_err-part.result c.from_residual-in_err-part.ensures.1
-    (λ r is s t h g. along_counted about last r c.args.path c.args.shape s t c.args.first c.args.second h g
-    (λ plain m o a b x y u v. subst (IsWithin (fix_count about.cases m c.args.path c.args.shape a b)) (sym is)
+    (λ r is s t h g. along_counted about budget last r path shape s t c.args.first c.args.second h g asks
+    (λ a f. f (statements.along path shape s t) (steps_back last s + steps_back last t) (sides_built about last path shape s t c.args.first c.args.second h g))
+    (λ plain m o a b x y u v. subst (IsWithinFew about budget asks (fix_count about.cases m path shape a b)) (sym is)
     (c.in_err-part.ensures.counted plain m o a b (record { counts = record { first = x; second = y }; some_first = u; some_second = v }))))
 
 pub returns-clause-known : goal.returns-clause-known

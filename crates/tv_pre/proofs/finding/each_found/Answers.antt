@@ -19,10 +19,8 @@ use Rattle.tv_pre.specs.Built.{IsBuiltOf, IsFaultOf}
 use Rattle.tv_pre.specs.Finding.{IsRefusedFor}
 use Rattle.tv_pre.proofs.PassedLemmas.{passed_on}
 use Rattle.tv_pre.proofs.FoundLemmas.{each_is_found, each_fault, each_question}
-use Rattle.tv_known.specs.Sizes.{greatest_count}
 use Rattle.tv_pre.specs.Counted.{IsWithin, some_counts_at, IsCountedFor}
-use Rattle.tv_pre.proofs.CountedFormulas.{each_counted}
-use Rattle.tv_pre.proofs.CountedLemmas.{cover_within}
+use Rattle.tv_pre.proofs.CountedFormulas.{each_counted, each_question_counted}
 use Rattle.tv_pre.specs.KnownStates.{IsKnownFor}
 use Rattle.tv_pre.proofs.KnownFormulas.{each_known}
 use Rattle.tv_pre.proofs.finding.each_found.Goals as goal
@@ -76,21 +74,25 @@ returns-clause-found c ss h =
 pub returns-in_err-region-clause-counted : goal.returns-in_err-region-clause-counted
 returns-in_err-region-clause-counted c =
     let about = system_of c.args.search.now in
+    let budget = c.args.search.now.setting.now.budget.now in
     let last = c.args.search.now.last in
     let arguments = c.args.arguments in
-    passed_on (λ fault. (ss : List Statement) → AreArguments about last ss arguments → IsCountedFor about (statements.each_of (statements_of ss)) fault)
+    passed_on (λ fault. (ss : List Statement) → AreArguments about last ss arguments → IsCountedFor about budget last (statements.each_of (statements_of ss)) fault)
     c.from_residual-in_err-region.result c.from_residual-in_err-region.ensures.1
-    (λ r is ss h. each_counted about last r ss arguments.regions.items arguments.nodes.items h.each
+    (λ r is ss h. each_counted about budget last ss arguments.regions.items arguments.nodes.items h.each r
     (subst (λ rs. IsWithin (λ (l : ℕ). product (some_counts_at l rs)) r) c.deref.ensures.value (subst (λ f. IsWithin (λ (l : ℕ). product (some_counts_at l c.deref.result.now)) f) (sym is) c.in_err-region.ensures.counted)))
 
 pub returns-in_err-part-clause-counted : goal.returns-in_err-part-clause-counted
 returns-in_err-part-clause-counted c =
     let about = system_of c.args.search.now in
+    let budget = c.args.search.now.setting.now.budget.now in
     let last = c.args.search.now.last in
     let arguments = c.args.arguments in
-    passed_on (λ fault. (ss : List Statement) → AreArguments about last ss arguments → IsCountedFor about (statements.each_of (statements_of ss)) fault)
+    passed_on (λ fault. (ss : List Statement) → AreArguments about last ss arguments → IsCountedFor about budget last (statements.each_of (statements_of ss)) fault)
     c.from_residual-in_err-part.result c.from_residual-in_err-part.ensures.1
-    (λ r is ss h plain m o f parts e. cover_within (greatest_count about.cases m f) c.in_err-part.field-0.0 r is)
+    (λ r is ss h. each_question_counted about budget last ss arguments.regions.items arguments.nodes.items h.each c.in_ok-region.region c.in_err-part.field-0.0 r
+    (subst (λ rs. IsBuiltOf about 0 rs c.in_ok-region.region) c.deref.ensures.value c.in_ok-region.ensures.built) is
+    (subst (λ rs. IsRefusal about budget (AsksOf (λ q. AsksEach q rs) c.in_ok-region.region.pieces.items) c.in_err-part.field-0.0) c.deref-2.ensures.value c.in_err-part.ensures.refusals))
 
 pub returns-clause-known : goal.returns-clause-known
 returns-clause-known c ss h =

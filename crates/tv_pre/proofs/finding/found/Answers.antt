@@ -105,7 +105,10 @@ pub returns-clause-counted : goal.returns-clause-counted
 returns-clause-counted c =
     let r = c.found_of.result in
     let s = aim_states c.args.aim.now in
-    subst (λ (z : Setting). IfErr r (IsCountedFor (cases_of z.about.now) s)) c.in_ok-search.ensures.setting c.found_of.ensures.counted
+    let search = c.in_ok-search.search in
+    let about = cases_of search.setting.now.about.now in
+    subst (λ (z : Setting). IfErr r (λ fault. (last : ℕ) → IsLastRound (cases_of z.about.now) 8 last → IsCountedFor (cases_of z.about.now) z.budget.now last s fault)) c.in_ok-search.ensures.setting
+    (if_err r (λ x h last l. subst (λ n. IsCountedFor about search.setting.now.budget.now n s x) (one_last about search.last last c.in_ok-search.ensures.search.last l) h) c.found_of.ensures.counted)
 
 pub returns-clause-known : goal.returns-clause-known
 returns-clause-known c =

@@ -1,4 +1,4 @@
-use Rattle.std.proofs.Common.{refl, sym, subst, ◌+◌, ◌∷◌, [], rules, arith, IsTrue, IsFalse}
+use Rattle.std.proofs.Common.{ℕ, refl, sym, subst, ◌+◌, ◌∷◌, [], rules, arith, IsTrue, IsFalse}
 use Rattle.tv_formula.specs.declared.tree.Path.{Path}
 use Rattle.tv_formula.specs.Properties.{fix}
 use Rattle.tv_cases.specs.Systems.{cases_of}
@@ -7,14 +7,16 @@ use Rattle.tv_pre.specs.Built.{IsFaultOf}
 use Rattle.tv_pre.specs.Parts.{IsPart, joined_pieces}
 use Rattle.tv_pre.specs.RankedAlong.{HasAll}
 use Rattle.tv_pre.specs.RankedUntil.{AsksComing}
-use Rattle.tv_pre.proofs.AlongLemmas.{is_along}
+use Rattle.tv_pre.proofs.AlongLemmas.{asked_less, is_along}
 use Rattle.tv_pre.proofs.BuiltLemmas.{rest_built}
 use Rattle.tv_pre.proofs.PassedLemmas.{passed_on, cover_fault}
-use Rattle.tv_pre.proofs.RankedAlongLemmas.{sides_fault, ends_fault, all_go, coming_is, both_built, coming_asked}
+use Rattle.tv_pre.proofs.RankedAlongLemmas.{both_given, sides_fault, ends_fault, all_go, coming_is, both_built, coming_asked}
 use Rattle.tv_pre.proofs.BetweenLemmas.{beside_of}
-use Rattle.tv_pre.proofs.SizedLemmas.{came_few}
+use Rattle.tv_pre.proofs.SizedLemmas.{came_joined, came_few}
 use Rattle.tv_pre.specs.Counted.{IsCountedAlong}
-use Rattle.tv_pre.proofs.CountedLemmas.{cover_along, going_along, no_call_along}
+use Rattle.tv_pre.proofs.CountedLemmas.{cover_along, between_along, going_along}
+use Rattle.tv_pre.specs.declared.fault.PreFault.{PreFault}
+use Rattle.tv_pre.proofs.FewTargets.{ranked_targets}
 use Rattle.tv_pre.proofs.ranked_along.ranked_along.Goals as goal
 
 pub returns-in_err-onward-clause-refused : goal.returns-in_err-onward-clause-refused
@@ -78,16 +80,37 @@ returns-clause-bounded c = came_few (cases_of c.args.setting.now.about.now) c.ar
 pub returns-in_err-onward-clause-counted : goal.returns-in_err-onward-clause-counted
 returns-in_err-onward-clause-counted c =
     let about = cases_of c.args.setting.now.about.now in
+    let budget = c.args.setting.now.budget.now in
     let sides = c.args.sides.now in
-    let P = IsCountedAlong about sides in
+    let P = λ (r : PreFault). ((most : ℕ) → IsCountedAlong about budget (most + 2) sides r) in
     passed_on P c.from_residual.result c.from_residual.ensures.1
-    (λ r is. subst P (sym is) (going_along about sides c.requires.shape c.requires.path c.variables-variables.ensures.limits.starts c.in_err-onward.field-0.0 c.in_err-onward.ensures.counted))
+    (λ r is. subst P (sym is) (λ most. going_along about sides budget (most + 2) c.requires.shape c.requires.path c.variables-variables.ensures.limits.starts c.in_err-onward.field-0.0 c.in_err-onward.ensures.counted))
 
 pub returns-in-Err-clause-untold_count : goal.returns-in-Err-clause-untold_count
-returns-in-Err-clause-untold_count c = no_call_along (cases_of c.args.setting.now.about.now) c.args.sides.now c.in-Err.fault c.in-Err.ensures.no_call
+returns-in-Err-clause-untold_count c most =
+    let about = cases_of c.args.setting.now.about.now in
+    let budget = c.args.setting.now.budget.now in
+    let sides = c.args.sides.now in
+    let end = c.args.end in
+    let onward = c.in_ok-onward.onward in
+    between_along about sides budget (most + 2) end onward
+    (came_joined about sides end c.requires.end_few c.requires.shape c.requires.path onward c.in_ok-onward.ensures.bounded c.variables-variables.ensures.limits.starts)
+    (λ a f. asked_less about 1 (most + 2) end (arguments sides) a (omega arith) c.requires.built
+    (λ s h m. f s (1 + h) (both_given about s h end onward (arguments sides) m (c.in_ok-onward.ensures.built s h (rest_built about s h end (arguments sides) m)))))
+    c.in-Err.fault c.in-Err.ensures.counted
 
 pub returns-in_err-part-clause-counted : goal.returns-in_err-part-clause-counted
 returns-in_err-part-clause-counted c =
     let about = cases_of c.args.setting.now.about.now in
+    let budget = c.args.setting.now.budget.now in
     let sides = c.args.sides.now in
-    passed_on (IsCountedAlong about sides) c.from_residual-in_err-part.result c.from_residual-in_err-part.ensures.1 (cover_along about sides c.in_err-part.field-0.0)
+    let end = c.args.end in
+    let onward = c.in_ok-onward.onward in
+    let starts = c.variables-variables.ensures.limits.starts in
+    let asks = AsksComing about sides end.pieces.items onward.pieces.items (joined_pieces (end ∷ onward ∷ [])) in
+    passed_on (λ (r : PreFault). (most : ℕ) → IsCountedAlong about budget (most + 2) sides r) c.from_residual-in_err-part.result c.from_residual-in_err-part.ensures.1
+    (λ r is most. cover_along about sides budget (most + 2) asks
+    (λ a w. asked_less about 2 (most + 2) end (arguments sides) a (omega arith) c.requires.built
+    (λ s h m. coming_asked about sides end onward s h m (c.in_ok-onward.ensures.built s h (rest_built about s h end (arguments sides) m)) c.requires.path a w))
+    (ranked_targets about sides c.requires.shape starts end onward (came_joined about sides end c.requires.end_few c.requires.shape c.requires.path onward c.in_ok-onward.ensures.bounded starts))
+    c.in_err-part.field-0.0 r is c.in_err-part.ensures.refusals)

@@ -5,7 +5,7 @@ use Rattle.tv_pre.specs.Built.{of_nowhere}
 use Rattle.tv_pre.specs.Counted.{IsCountedFor, IsCountedBefore}
 use Rattle.tv_pre.specs.Finding.{IsRefusedFor}
 use Rattle.tv_pre.specs.Search.{system_of}
-use Rattle.tv_pre.proofs.EndsByRounds.{alone_end, alone_refused, alone_found, ends_wild}
+use Rattle.tv_pre.proofs.EndsByRounds.{alone_end, alone_refused, alone_counted, alone_found, ends_wild}
 use Rattle.tv_pre.proofs.PassedLemmas.{passed_on}
 use Rattle.tv_pre.proofs.TerminationRounds.{back_refused, stops_counted}
 use Rattle.tv_pre.proofs.TerminationSides.{ends_sides}
@@ -23,9 +23,11 @@ returns-in_err-stops-clause-refused c =
 pub returns-in_err-stops-clause-counted : goal.returns-in_err-stops-clause-counted
 returns-in_err-stops-clause-counted c =
     let about = system_of c.args.search.now in
+    let budget = c.args.search.now.setting.now.budget.now in
+    let last = c.args.search.now.last in
     let none = c.nowhere-none.result in
-    passed_on (IsCountedFor about statements.ends) c.from_residual-in_err-stops.result c.from_residual-in_err-stops.ensures.1
-    (λ r is. stops_counted about none r c.nowhere-none.ensures (subst (IsCountedBefore about Every none) (sym is) c.in_err-stops.ensures.counted))
+    passed_on (IsCountedFor about budget last statements.ends) c.from_residual-in_err-stops.result c.from_residual-in_err-stops.ensures.1
+    (λ r is. stops_counted about budget last none r c.nowhere-none.ensures (subst (IsCountedBefore about Every none) (sym is) c.in_err-stops.ensures.counted))
 
 pub ends_in_rounds-requires-clause-sides : goal.ends_in_rounds-requires-clause-sides
 ends_in_rounds-requires-clause-sides c =
@@ -46,6 +48,15 @@ returns-in_err-part-clause-refused c =
     let back = c.in_ok-stops.ensures in
     passed_on (IsRefusedFor about budget last statements.ends) c.from_residual-in_err-part.result c.from_residual-in_err-part.ensures.1
     (λ r is. alone_refused about last c.nowhere-none.result c.in_ok-stops.stops c.nowhere-none.ensures back.before back.built c.new.result.items c.new.ensures.items budget c.in_err-part.field-0.0 r is c.in_err-part.ensures.refusals)
+
+pub returns-in_err-part-clause-counted : goal.returns-in_err-part-clause-counted
+returns-in_err-part-clause-counted c =
+    let about = system_of c.args.search.now in
+    let budget = c.args.search.now.setting.now.budget.now in
+    let last = c.args.search.now.last in
+    let back = c.in_ok-stops.ensures in
+    passed_on (IsCountedFor about budget last statements.ends) c.from_residual-in_err-part.result c.from_residual-in_err-part.ensures.1
+    (λ r is. alone_counted about last c.nowhere-none.result c.in_ok-stops.stops c.nowhere-none.ensures back.before back.built c.new.result.items c.new.ensures.items budget c.in_err-part.field-0.0 r is c.in_err-part.ensures.refusals)
 
 pub returns-clause-found : goal.returns-clause-found
 returns-clause-found c lacks =

@@ -14,11 +14,12 @@ use Rattle.tv_pre.specs.Search.{system_of}
 use Rattle.tv_pre.proofs.AlongLemmas.{settled_round, open_rounds, open_round}
 use Rattle.tv_pre.proofs.ExactLemmas.{open_sides}
 use Rattle.tv_pre.proofs.FullAlongLemmas.{along_full}
-use Rattle.tv_pre.proofs.NeverByRounds.{both_over, at_none, none_few, open_gap, release_refused, release_counted, round_goes, round_refused, round_found}
+use Rattle.tv_pre.proofs.NeverByRounds.{both_over, at_none, none_few, open_gap, release_refused, release_counted, round_goes, round_refused, round_counted, round_found}
 use Rattle.tv_pre.proofs.KnownAlongLemmas.{round_known, none_known}
 use Rattle.tv_pre.proofs.KnownTermination.{never_along}
 use Rattle.tv_pre.proofs.PassedLemmas.{passed_on}
 use Rattle.tv_pre.proofs.TerminationFound.{nowhere_found}
+use Rattle.tv_pre.proofs.BuiltLemmas.{first_of_two}
 use Rattle.tv_pre.proofs.termination.never_in_rounds.Goals as goal
 
 pub rounds_of-requires-clause-end : goal.rounds_of-requires-clause-end
@@ -43,10 +44,11 @@ returns-in_err-region-clause-refused c =
 pub returns-in_err-region-clause-counted : goal.returns-in_err-region-clause-counted
 returns-in_err-region-clause-counted c =
     let about = system_of c.args.search.now in
+    let budget = c.args.search.now.setting.now.budget.now in
     let last = c.args.search.now.last in
     let cases = c.variables-variables.ensures.limits.cases in
-    passed_on (IsCountedFor about statements.never_ends) c.from_residual.result c.from_residual.ensures.1
-    (λ r is. release_counted about cases last c.requires.search.last _ refl refl c.requires.nowhere c.requires.sides c.in_err-region.field-0.0 r is c.in_err-region.ensures.counted)
+    passed_on (IsCountedFor about budget last statements.never_ends) c.from_residual.result c.from_residual.ensures.1
+    (λ r is. release_counted about cases last c.requires.search.last _ refl refl c.requires.nowhere c.requires.sides budget c.in_err-region.field-0.0 r is c.in_err-region.ensures.counted)
 
 pub never_ends-requires-clause-over : goal.never_ends-requires-clause-over
 never_ends-requires-clause-over c =
@@ -76,6 +78,19 @@ returns-in_err-part-in-Settled-clause-refused c =
     let told = settled_round about last _ c.args.none.now answer round c.in-Settled.at c.in-Settled.layers c.in-Settled.is refl rounds in
     passed_on (IsRefusedFor about budget last statements.never_ends) c.from_residual-in_err-part-in-Settled.result c.from_residual-in_err-part-in-Settled.ensures.1
     (λ r is. round_refused about cases last c.requires.search.last _ refl refl c.requires.nowhere c.requires.sides answer rounds c.in-Settled.at round told.early told.round budget c.in_err-part-in-Settled.field-0.0 r is c.in_err-part-in-Settled.ensures.refusals)
+
+pub returns-in_err-part-in-Settled-clause-counted : goal.returns-in_err-part-in-Settled-clause-counted
+returns-in_err-part-in-Settled-clause-counted c =
+    let about = system_of c.args.search.now in
+    let budget = c.args.search.now.setting.now.budget.now in
+    let last = c.args.search.now.last in
+    let cases = c.variables-variables.ensures.limits.cases in
+    let answer = c.in_ok-region.field-0 in
+    let round = c.in-Settled.region in
+    let rounds = c.in_ok-region.ensures.rounds in
+    let told = settled_round about last _ c.args.none.now answer round c.in-Settled.at c.in-Settled.layers c.in-Settled.is refl rounds in
+    passed_on (IsCountedFor about budget last statements.never_ends) c.from_residual-in_err-part-in-Settled.result c.from_residual-in_err-part-in-Settled.ensures.1
+    (λ r is. round_counted about cases last c.requires.search.last _ refl refl c.requires.nowhere c.requires.sides answer rounds c.in-Settled.at round told.early told.round budget c.in_err-part-in-Settled.field-0.0 r is c.in_err-part-in-Settled.ensures.refusals)
 
 pub returns-in-Settled-clause-found : goal.returns-in-Settled-clause-found
 returns-in-Settled-clause-found c lacks =
@@ -134,3 +149,6 @@ returns-clause-known c lacks =
     never_along about cases last alone region sides refl refl c.requires.sides
     (none_known about cases sides c.args.none.now rounds.point rounds.of (at_none about cases last c.requires.search.last sides refl refl c.requires.nowhere c.requires.sides) refl alone last c.in-Open.region region c.in-Open.layers.items told
     (λ e. c.in_ok-part-in-Open.ensures.nowhere.none))
+
+pub rounds_of-requires-clause-built : goal.rounds_of-requires-clause-built
+rounds_of-requires-clause-built c = λ s h m. first_of_two (system_of c.args.search.now) s h c.args.none.now c.args.goes.now m

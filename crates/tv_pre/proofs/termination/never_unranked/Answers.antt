@@ -24,9 +24,11 @@ returns-in_err-goes-clause-refused c =
 pub returns-in_err-goes-clause-counted : goal.returns-in_err-goes-clause-counted
 returns-in_err-goes-clause-counted c =
     let about = system_of c.args.search.now in
+    let budget = c.args.search.now.setting.now.budget.now in
+    let last = c.args.search.now.last in
     let anywhere = c.in_ok-anywhere.anywhere in
-    passed_on (IsCountedFor about statements.never_ends) c.from_residual-in_err-goes.result c.from_residual-in_err-goes.ensures.1
-    (λ r is. goes_counted about anywhere r c.in_ok-anywhere.ensures (subst (IsCountedBefore about Any anywhere) (sym is) c.in_err-goes.ensures.counted))
+    passed_on (IsCountedFor about budget last statements.never_ends) c.from_residual-in_err-goes.result c.from_residual-in_err-goes.ensures.1
+    (λ r is. goes_counted about budget last anywhere r c.in_ok-anywhere.ensures (subst (IsCountedBefore about Any anywhere) (sym is) c.in_err-goes.ensures.counted))
 
 pub never_in_rounds-requires-clause-sides : goal.never_in_rounds-requires-clause-sides
 never_in_rounds-requires-clause-sides c =
