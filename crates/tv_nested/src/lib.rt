@@ -1,22 +1,31 @@
 //! Terms that become decreasing one after the other, for a set of linear cases, or a barrier that excludes every such tuple of terms.
 #![tactic(auto)]
 
+mod attempt;
 mod certificate;
 mod depths;
 mod entries;
 mod fault;
 mod law;
 mod listing;
+mod nest;
 mod nested;
 mod nesting;
+mod node;
+mod offered;
 mod part;
+mod parted;
+mod pieces;
+mod ranking;
 mod reading;
+mod showing;
 mod shown;
 mod signs;
 mod solution;
 mod solving;
 mod splitting;
 mod stepping;
+mod steps;
 mod system;
 mod unknown;
 
@@ -24,6 +33,7 @@ pub use certificate::nested_certificate;
 pub use depths::{DepthFault, Depths, nested_depths};
 pub use fault::{NestFault, NestName};
 pub use law::barriers_exclude;
+pub use nest::nest;
 pub use nested::Nested;
 pub use nesting::{Family, Nesting};
 pub use part::Part;
