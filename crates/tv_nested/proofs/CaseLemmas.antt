@@ -17,8 +17,8 @@ use Rattle.tv_lexrank.specs.Falling.{AreNarrowLines}
 use Rattle.tv_lexrank.specs.Known.{AreBare, way_rows}
 use Rattle.tv_lexrank.specs.More.{way_with, IsUnderMore}
 use Rattle.tv_lexrank.specs.Rounds.{place_in, falls_in, lines_of, ranks_at}
-use Rattle.tv_lexrank.specs.Shown.{owed_fall, IsShownBy}
-use Rattle.tv_lexrank.specs.Sorting.{StandsIn, LeadsInside, refutation_at}
+use Rattle.tv_lexrank.specs.Shown.{owed_fall, RefutesWay, IsShownBy}
+use Rattle.tv_lexrank.specs.Sorting.{StandsIn, LeadsInside, IsNeverTaken, refutation_at}
 use Rattle.tv_lexrank.specs.Steps.{IsFall}
 use Rattle.tv_lexrank.specs.declared.falling.Fall.{Fall}
 use Rattle.tv_lexrank.specs.declared.shown.CaseShown.{CaseShown}
@@ -26,7 +26,7 @@ use Rattle.tv_lexrank.specs.declared.shown.CaseShown.TheVariants.{Untaken, Falls
 use Rattle.tv_lexrank.proofs.Chained.{found_at}
 use Rattle.tv_lexrank.proofs.NodeLemmas.{fall_padded}
 use Rattle.tv_lexrank.proofs.SortLemmas.{of_case}
-use Rattle.tv_lexrank.proofs.StepLemmas.{leaving_falls, stands_empty}
+use Rattle.tv_lexrank.proofs.StepLemmas.{leaving_falls, stands_if, stands_empty}
 use Rattle.tv_lexrank.proofs.ZeroLines.{zero_line}
 use Rattle.tv_nested.specs.declared.part.Part.{Part}
 use Rattle.tv_nested.specs.declared.ranking.Ranking.{Ranking}
@@ -35,7 +35,7 @@ use Rattle.tv_nested.specs.Apart.{IsApart, ShowsBare}
 use Rattle.tv_nested.specs.Parts.{tuple_in, signs_in, nested_ranks, IsNestedPart, ShowsFrom}
 use Rattle.tv_nested.specs.Ranks.{component_of, tuple_of_place, ranks_of, signs_at, way_from, ShowsCase}
 use Rattle.tv_nested.specs.Signs.{terms_there, signs_there, sign_rows}
-use Rattle.tv_nested.proofs.RankingLemmas.{component_in}
+use Rattle.tv_nested.proofs.RankingLemmas.{component_in, tuple_length, signs_length}
 use Rattle.tv_nested.proofs.TakenLemmas.{lead_down, down_narrow, line_narrow, zero_narrow, round_falls}
 
 -- further ranks at the end do not change what shows a case
@@ -49,9 +49,6 @@ shown_padded v w old new more more' (Falls fall) h = record { shown = by_owed (o
 
 -- ---- cases inside a component that the rounds do not leave
 module _ (about : CaseSystem) (component : ℕ) (p : Part) (k : ℕ) (h : IsApart about component p k) (small : component < 2 ^ 32) where
-  abbrev known : List Piece
-  known = h.known
-
   no_rows : way_of about.cases h.known k ≡ way_with (case_at about.cases k) []
   no_rows = ap (λ rows. way_with (case_at about.cases k) rows) (h.bare (case_at about.cases k).from)
 
@@ -78,8 +75,8 @@ module _ (about : CaseSystem) (component : ℕ) (p : Part) (k : ℕ) (h : IsApar
   pub refuted_shown : (ms : Vec ℤ Global) → (place_in p.sorted.set.items k < length p.sorted.set.items → ⊥) → ms.items ≡ refutation_at p.sorted (place_in p.sorted.empty.items k) → ShowsBare about component p k (Untaken ms)
   refuted_shown ms out e =
       let s = stands_empty about h.known h.numbers component k p.sorted.set.items p.sorted.empty.items (lists p.sorted.refutations.items) h.is_part.sorted h.within h.inside out in
-      rw e (record {
-        refutes = rw (← no_rows) s.1;
+      subst (RefutesWay about.variables (way_with (case_at about.cases k) [])) (sym e) (record {
+        refutes = subst (λ y. IsNeverTaken about.variables y (refutation_at p.sorted (place_in p.sorted.empty.items k))) no_rows s.1;
         narrow = line_narrow (lists p.sorted.refutations.items) (place_in p.sorted.empty.items k) h.is_part.sorted.narrow;
       })
 
@@ -133,7 +130,7 @@ module _ (r : Ranking) (k piece : ℕ) where
       let f = subst (λ z. IsFall 1 ((zeros z ++ pos 1 ∷ []) ∷ (zeros z ++ pos 1 ∷ []) ∷ []) fall) many falls in
       let from = component_of r c.from in
       let to = component_of r c.to in
-      let less = below_of to from (r.components.never_rises k k_in) other in
+      let less = below_of to from (r.never_rises k k_in) other in
       let u = component_in r c.from (of_case about k r.about.now.are_cases k_in).leaves in
       let bounded = r.few_parts in
       shown_padded v w (ranks_at v (component_of r c.from) (rounds_in r.parts.now (component_of r c.from)) c.from) (ranks_at v (component_of r c.to) (rounds_in r.parts.now (component_of r c.to)) c.to)
@@ -148,3 +145,14 @@ module _ (r : Ranking) (k piece : ℕ) where
         | inl l ↦ l
         | inr m ↦ absurd (n (omega (arith, h, m)))
       ]
+
+-- the first place of a number that stands in a list
+pub place_found : (xs : List ℕ) (k : ℕ) → place_in xs k < length xs → get_or xs (place_in xs k) 0 ≡ k
+place_found xs k h = (let s = stands_if xs k h in (found_at xs k s.0 s.1 s.2).1)
+
+-- a location of a component has a sign for each of its nested terms
+pub terms_many : (r : Ranking) (k component : ℕ) (p : Part) → LeadsInside r.numbers.now component (case_at (cases_of r.about.now).cases k) → tuple_in p ≡ tuple_at r.parts.now component → length (signs_at r (case_at (cases_of r.about.now).cases k).from) ≡ length p.family.terms.items
+terms_many r k component p inside t =
+    let l = (case_at (cases_of r.about.now).cases k).from in
+    signs_length (cases_of r.about.now).variables (tuple_of_place r (case_at (cases_of r.about.now).cases k).from) (case_at (cases_of r.about.now).cases k).from
+    ∙ ap (λ n. length (tuple_at r.parts.now n)) inside.0 ∙ ap length (sym t) ∙ tuple_length p

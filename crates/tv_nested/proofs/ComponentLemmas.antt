@@ -51,7 +51,7 @@ named_first : (about : CaseSystem) (known : List Piece) (numbers : List ℕ) (co
 named_first about known numbers component pivots (named.Empty k) e before h = (component, h, before)
 named_first about known numbers component pivots (named.Rank c round falling) e before (is, h) =
     (subst (λ z. NamesPart about known numbers z pivots (name.Rank c round falling) e) (sym is) h, subst (AreNestedBefore about known numbers) (sym is) before)
-named_first about known numbers component pivots (named.Nest c d) e before (is, set, left, h) =
+named_first about known numbers component pivots (named.Nest c d) e before (is, (set, left, h)) =
     (set, subst (λ z. IsLeft about known numbers z set) (sym is) left, h, subst (AreNestedBefore about known numbers) (sym is) before)
 
 pub part_refused : (about : CaseSystem) (known : List Piece) (numbers : List ℕ) (component pivots : ℕ) (e : NestFault) → AreNestedBefore about known numbers component → RefusesParted about known numbers component pivots e → RefusesAttempt about known numbers pivots e

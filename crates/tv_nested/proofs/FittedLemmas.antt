@@ -1,5 +1,5 @@
 -- The node of nested terms fits and is met, and it covers every location.
-use Rattle.std.proofs.Common.{◌⊎◌, inl, inr, All, ◌≡◌, ℕ, zero, suc, ◌+◌, ◌*◌, ◌-◌, ◌^◌, ◌<◌, ◌≤◌, List, [], ◌∷◌, ◌++◌, length, length-append, map, get_or, Option, None, Some, Bool, true, false, cond, ◌==◌, if◌then◌else◌, arith, refl, sym, ap, ◌∙◌, subst, ℤ, pos, ◌≤ℤ◌}
+use Rattle.std.proofs.Common.{◌⊎◌, inl, inr, All, ◌≡◌, ℕ, zero, suc, ◌+◌, ◌*◌, ◌-◌, ◌^◌, ◌<◌, ◌≤◌, List, [], ◌∷◌, ◌++◌, length, length-append, map, get_or, Option, None, Some, Bool, true, false, cond, ◌==◌, if◌then◌else◌, arith, refl, sym, ap, ◌∙◌, subst, ℤ, pos, negsuc, ◌≤ℤ◌}
 use Rattle.std.specs.Prelude.{slice_get, Contains}
 use Rattle.std.specs.List.{AllZip, flat_map, filter}
 use Rattle.std.specs.Option.{option_map}
@@ -123,7 +123,7 @@ module _ (r : Ranking) where
   there_shaped : AreRanked r → (l : ℕ) → l < (cases_of r.about.now).locations → (n : ℕ) → All (PieceShape (cases_of r.about.now) r.count false) (map (piece_with r l) (first_pieces (signs_at r l) n))
   there_shaped ranked l h zero = All-nil (PieceShape (cases_of r.about.now) r.count false)
   there_shaped ranked l h (suc n) =
-      rw (map_push (piece_with r l) (first_pieces (signs_at r l) n) (sign_rows (signs_at r l) n))
+      subst (All (PieceShape (cases_of r.about.now) r.count false)) (sym (map_push (piece_with r l) (first_pieces (signs_at r l) n) (sign_rows (signs_at r l) n)))
       (All-push (PieceShape (cases_of r.about.now) r.count false) (map (piece_with r l) (first_pieces (signs_at r l) n)) (nested_piece r l n) (there_shaped ranked l h n) (record {
         place = h;
         poly = refl;

@@ -27,3 +27,5 @@ pub mod RankingLemmas
 pub mod CaseLemmas
 pub mod OfferedLemmas
 pub mod FittedLemmas
+pub mod RefusalLemmas
+pub mod PieceLemmas

@@ -29,6 +29,7 @@ use Rattle.tv_lexrank.specs.Closing.{changed}
 use Rattle.tv_lexrank.specs.Known.{way_rows}
 use Rattle.tv_lexrank.specs.Pieces.{zero_ranks}
 use Rattle.tv_lexrank.specs.Shown.{owed_fall}
+use Rattle.tv_lexrank.specs.declared.shown.CaseShown.{CaseShown}
 use Rattle.tv_lexrank.proofs.NodeLemmas.{fall_padded, met_weaker}
 use Rattle.tv_lexrank.proofs.OfferLemmas.{met_shape}
 use Rattle.tv_lexrank.proofs.SortLemmas.{of_case}
@@ -37,9 +38,19 @@ use Rattle.tv_nested.specs.declared.ranking.Ranking.{Ranking}
 use Rattle.tv_nested.specs.Amounts.{amount_in}
 use Rattle.tv_nested.specs.NodePieces.{piece_with, nested_piece, pieces_there, node_pieces, ArePieces}
 use Rattle.tv_nested.specs.NodeProofs.{IsStepProof, step_owed, IsOfferedAt, AreStepsShown, owed_of, Offer, AreOffered}
-use Rattle.tv_nested.specs.Ranks.{component_of, ranks_of, all_ranks, signs_at, way_from, ShowsStep}
+use Rattle.tv_nested.specs.Ranks.{component_of, ranks_of, all_ranks, signs_at, way_from, ShowsCase, ShowsStep}
 use Rattle.tv_nested.specs.Signs.{sign_rows, first_pieces, sign_pieces}
-use Rattle.tv_nested.specs.Steps.{owed_rows, owed_signs}
+use Rattle.tv_nested.specs.Steps.{owed_rows, owed_signs, ShowsSignStep}
+
+-- what is shown of a step, at the signs and the rows of a ranking
+pub step_shown : (r : Ranking) (k q v before : ℕ) (c : LinearCase) (signs : List Linear) (shown : CaseShown) (tree : CoverTree) → v ≡ (cases_of r.about.now).variables → c ≡ case_at (cases_of r.about.now).cases k → signs ≡ signs_at r (case_at (cases_of r.about.now).cases k).to → before ≡ length (sign_rows (signs_at r (case_at (cases_of r.about.now).cases k).from) q) → ShowsSignStep v c signs before shown tree → ShowsCase r k q shown → ShowsStep r k q tree
+step_shown r k q v before c signs shown tree a e b count h s =
+    let case = case_at (cases_of r.about.now).cases k in
+    let there : ShowsSignStep (cases_of r.about.now).variables (case_at (cases_of r.about.now).cases k) (signs_at r (case_at (cases_of r.about.now).cases k).to) before shown tree =
+    subst (λ z. ShowsSignStep (cases_of r.about.now).variables z (signs_at r (case_at (cases_of r.about.now).cases k).to) before shown tree) e
+    (subst (λ z. ShowsSignStep (cases_of r.about.now).variables c z before shown tree) b
+    (subst (λ z. ShowsSignStep z c signs before shown tree) a h)) in
+    there (sign_rows (signs_at r case.from) q) (ranks_of r case.from) (ranks_of r case.to) (sym count) s
 
 -- ---- the step over a case, from a piece
 module _ (r : Ranking) (k q : ℕ) (k_in : k < length (cases_of r.about.now).cases) (ps : List Marked) (pieces : ArePieces r ps) where

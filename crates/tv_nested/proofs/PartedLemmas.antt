@@ -95,7 +95,7 @@ module _ (about : CaseSystem) (known : List Piece) (numbers : List ℕ) (compone
   round_named set (name.Later s falling) n e g taken same eq h = absurd same
 
   pub greedy_told : (set : List ℕ) (f : RankFault) (x : NestFault) → AreTakenOut about known numbers component set → IsToldAs f x → RefusesGreedy about known set pivots component f → RefusesParted about known numbers component pivots x
-  greedy_told set (rank.Open taken values) x taken told h = absurd h
+  greedy_told set (rank.Open number values) x taken told h = absurd h
   greedy_told set (rank.Cover f) x taken told h = absurd h
   greedy_told set (rank.Solve system e) (fault.Solve n g) taken told h = round_named set system n e g taken told.0 told.1 h
   greedy_told set (rank.Solve system e) (fault.Cover f) taken told h = absurd told
@@ -106,10 +106,10 @@ module _ (about : CaseSystem) (known : List Piece) (numbers : List ℕ) (compone
 
   -- ---- the refusal of a nested system
   system_refused : (set : List ℕ) (d : ℕ) (e : SolveFault) → IsLeft about known numbers component set → 2 ≤ d → d ≤ 4 → ((f : SolveFault) → IsSystemFault (system_of_set about known set d) pivots f → RefusesDepth about known set pivots d f) → IsRefusal (system_of_set about known set d) pivots e → RefusesParted about known numbers component pivots (refusal_of (named.Nest component d) e)
-  system_refused set d (Width basis row column) left deep shallow h r = (refl, set, left, h (Width basis row column) r)
-  system_refused set d (Scale basis) left deep shallow h r = (refl, set, left, h (Scale basis) r)
-  system_refused set d (Pivots bases) left deep shallow h r = (refl, set, left, h (Pivots bases) r)
-  system_refused set d (Size height width) left deep shallow h r = (refl, set, left, h (Size height width) r)
+  system_refused set d (Width basis row column) left deep shallow h r = (refl, (set, left, h (Width basis row column) r))
+  system_refused set d (Scale basis) left deep shallow h r = (refl, (set, left, h (Scale basis) r))
+  system_refused set d (Pivots bases) left deep shallow h r = (refl, (set, left, h (Pivots bases) r))
+  system_refused set d (Size height width) left deep shallow h r = (refl, (set, left, h (Size height width) r))
   system_refused set d Memory left deep shallow h r = tt
 
   pub depth_refused : (set : List ℕ) (e : DepthFault) → IsLeft about known numbers component set → IsDepthFault about known set pivots e → RefusesParted about known numbers component pivots (refusal_of (named.Nest component e.depth) e.fault)

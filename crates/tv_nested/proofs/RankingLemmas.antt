@@ -93,7 +93,7 @@ module _ (r : Ranking) where
 
   -- the component of a location is one of them
   pub component_in : (l : ℕ) → l < (cases_of r.about.now).locations → component_of r l < length r.parts.now
-  component_in l h = r.below l (let e = r.components.one_each in omega (arith, e, h))
+  component_in l h = r.below l (let e = r.located in omega (arith, e, h))
 
   zeros_wide : (n : ℕ) → All (λ q. columns q ≡ v) (zero_ranks v n)
   zeros_wide zero = All-nil (λ q. columns q ≡ v)
@@ -116,11 +116,13 @@ module _ (r : Ranking) where
       omega (arith, e, a, b, d, f, g)
 
   -- what the component of a location has
-  part_of : (known : List Piece) → PartsFrom (cases_of r.about.now) known r.numbers.now 0 r.parts.now → (l : ℕ) → l < (cases_of r.about.now).locations → (p : Part) × IsNestedPart (cases_of r.about.now) known r.numbers.now (0 + component_of r l) p × (p.rounds.items ≡ rounds_in r.parts.now (component_of r l)) × (tuple_in p ≡ tuple_of_place r l)
-  part_of known parts l h = part_there (cases_of r.about.now) known r.numbers.now 0 (component_of r l) r.parts.now parts (component_in l h)
+  pub part_of : (known : List Piece) → PartsFrom (cases_of r.about.now) known r.numbers.now 0 r.parts.now → (l : ℕ) → l < (cases_of r.about.now).locations → (p : Part) × IsNestedPart (cases_of r.about.now) known r.numbers.now (component_of r l) p × (p.rounds.items ≡ rounds_in r.parts.now (component_of r l)) × (tuple_in p ≡ tuple_of_place r l)
+  part_of known parts l h =
+      let s = part_there (cases_of r.about.now) known r.numbers.now 0 (component_of r l) r.parts.now parts (component_in l h) in
+      (s.0, subst (λ z. IsNestedPart (cases_of r.about.now) known r.numbers.now z s.0) (let q : 0 + component_of r l ≡ component_of r l = omega arith in q) s.1, s.2, s.3)
 
   terms_wide : AreRanked r → (l : ℕ) → l < (cases_of r.about.now).locations → All (λ q. columns q ≡ v) (terms_there v (tuple_of_place r l) l)
-  terms_wide (known, bare, parts) l h =
+  terms_wide (components, (known, bare, parts)) l h =
       let s = part_of known parts l h in
       subst (λ ts. All (λ q. columns q ≡ v) (terms_there v ts l)) s.3 (tuple_wide v (tuple_in s.0) l s.1.family.wide)
 
@@ -128,7 +130,7 @@ module _ (r : Ranking) where
   signs_wide ranked l h = opposites_wide v (terms_there v (tuple_of_place r l) l) (terms_wide ranked l h)
 
   pub signs_few : AreRanked r → (l : ℕ) → l < (cases_of r.about.now).locations → length (signs_at r l) ≤ 4
-  signs_few (known, bare, parts) l h =
+  signs_few (components, (known, bare, parts)) l h =
       let s = part_of known parts l h in
       let a = s.1.shallow in
       let b = tuple_length s.0 in
@@ -137,7 +139,7 @@ module _ (r : Ranking) where
       omega (arith, a, b, d, e)
 
   pub ranks_wide : AreRanked r → (l : ℕ) → l < (cases_of r.about.now).locations → All (λ q. columns q ≡ v) (all_ranks r l)
-  ranks_wide (known, bare, parts) l h =
+  ranks_wide (components, (known, bare, parts)) l h =
       let s = part_of known parts l h in
       let c = component_of r l in
       let rounds = subst (λ rs. All (λ q. columns q ≡ v) (terms_at v rs l)) s.2
@@ -145,5 +147,5 @@ module _ (r : Ranking) where
       All-append (λ q. columns q ≡ v) (ranks_of r l) (zero_ranks v (r.count - 1 - amount_in r.parts.now (component_of r l)))
       (All-append (λ q. columns q ≡ v) (ranks_at v (component_of r l) (rounds_in r.parts.now (component_of r l)) l) (terms_there v (tuple_of_place r l) l)
       (All-cons (λ q. columns q ≡ v) (constant_row v (pos (component_of r l))) (terms_at v (rounds_in r.parts.now (component_of r l)) l) (length-zeros v) rounds)
-      (terms_wide (known, bare, parts) l h))
+      (terms_wide (components, (known, bare, parts)) l h))
       (zeros_wide (r.count - 1 - amount_in r.parts.now (component_of r l)))

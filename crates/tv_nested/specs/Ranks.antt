@@ -8,6 +8,7 @@ use Rattle.tv_cases.specs.Systems.{cases_of}
 use Rattle.tv_farkas.specs.declared.fault.CoverFault.{CoverFault}
 use Rattle.tv_rank.specs.Ways.{Way, case_at}
 use Rattle.tv_rank.specs.declared.found.LocalTerm.{LocalTerm}
+use Rattle.tv_lexrank.specs.First.{AreComponents}
 use Rattle.tv_lexrank.specs.Known.{AreBare}
 use Rattle.tv_lexrank.specs.More.{way_with}
 use Rattle.tv_lexrank.specs.Pieces.{zero_ranks}
@@ -25,9 +26,9 @@ use Rattle.tv_nested.specs.Parts.{PartsFrom, IsNestedPart}
 use Rattle.tv_nested.specs.Signs.{terms_there, signs_there, sign_rows}
 use Rattle.tv_nested.specs.Steps.{IsSignStep}
 
--- the parts are those of the components, where no rows are known
+-- the numbers are those of the components, and the parts their terms, where no rows are known
 abbrev pub AreNested : CaseSystem → List ℕ → List Part → Type 0
-AreNested about numbers parts = (known : List Piece) × AreBare known × PartsFrom about known numbers 0 parts
+AreNested about numbers parts = AreComponents about numbers × ((known : List Piece) × AreBare known × PartsFrom about known numbers 0 parts)
 
 -- the components have terms
 abbrev pub AreRanked : Ranking → Type 0

@@ -1,6 +1,7 @@
 //! Terms that become decreasing one after the other, for a set of linear cases, or a barrier that excludes every such tuple of terms.
 #![tactic(auto)]
 
+mod answered;
 mod attempt;
 mod certificate;
 mod depths;
@@ -8,7 +9,6 @@ mod entries;
 mod fault;
 mod law;
 mod listing;
-mod nest;
 mod nested;
 mod nesting;
 mod node;
@@ -29,11 +29,11 @@ mod steps;
 mod system;
 mod unknown;
 
+pub use answered::nest;
 pub use certificate::nested_certificate;
 pub use depths::{DepthFault, Depths, nested_depths};
 pub use fault::{NestFault, NestName};
 pub use law::barriers_exclude;
-pub use nest::nest;
 pub use nested::Nested;
 pub use nesting::{Family, Nesting};
 pub use part::Part;

@@ -2,8 +2,7 @@
 
 ghost use Rattle.std.specs.Prelude.{◌≡◌, ℕ, ◌+◌, ◌≤◌, ◌<◌, length, get_or};
 ghost use Rattle.tv_cases.specs.Systems.{cases_of};
-ghost use Rattle.tv_lexrank.specs.Attempt.{AreBelow};
-ghost use Rattle.tv_lexrank.specs.First.{AreComponents};
+ghost use Rattle.tv_lexrank.specs.Attempt.{AreBelow, NeverRises};
 ghost use Rattle.tv_nested.specs.Amounts.{AreFew, amount_in};
 
 use crate::part::Part;
@@ -21,7 +20,8 @@ pub struct Ranking<'a> {
     /// The components in the order of their numbers.
     pub parts: &'a [Part],
     pub count: u32,
-    pub ghost components: { AreComponents (cases_of about.now) numbers.now },
+    pub ghost located: { length numbers.now ≡ (cases_of about.now).locations },
+    pub ghost never_rises: { NeverRises (cases_of about.now) numbers.now },
     pub ghost below: { AreBelow (length parts.now) numbers.now },
     pub ghost enough: { (number : ℕ) → amount_in parts.now number + 1 ≤ count },
     pub ghost bounded: { count ≤ 8197 },

@@ -1,8 +1,10 @@
-use Rattle.std.proofs.Common.{◌∙◌, length, map, ap, sym, subst, arith}
+use Rattle.std.proofs.Common.{◌≡◌, ◌∙◌, length, map, ap, sym, subst, arith}
 use Rattle.std.proofs.lemmas.List.{length-map}
 use Rattle.tv_cases.specs.LinearCases.{from_of}
 use Rattle.tv_cases.specs.Systems.{cases_of}
 use Rattle.tv_places.specs.Places.{IsIndexOf}
+use Rattle.tv_nested.specs.NodePieces.{node_pieces}
+use Rattle.tv_nested.specs.NodeProofs.{Offer}
 use Rattle.tv_nested.proofs.OfferedLemmas.{locations_more}
 use Rattle.tv_nested.proofs.offered.proofs_of.Goals as goal
 
@@ -21,3 +23,11 @@ push_proofs-requires-clause-stands c =
 
 pub locations-preserved : goal.locations-preserved
 locations-preserved c = locations_more c.args.ranking.now c.locations.location c.locations.proofs.items _ c.locations.invariant c.in-Ok.ensures.offered
+
+pub returns-clause-offered : goal.returns-clause-offered
+returns-clause-offered c =
+    let t = c.locations-test.false in
+    let e = c.locations.auto.location-end in
+    let s = c.locations-location-end.ensures.same in
+    let all : c.locations.location ≡ (cases_of c.args.ranking.now.about.now).locations = omega (arith, t, e, s) in
+    subst (λ n. Offer c.args.ranking.now (node_pieces c.args.ranking.now n) c.locations.proofs.items) all c.locations.invariant

@@ -10,7 +10,7 @@ use Rattle.tv_nested.proofs.parted.part_of.Goals as goal
 pub told-requires : goal.told-requires
 told-requires c =
     let k = c.args.component.now in
-    sorting_bare (cases_of k.about.now) k.known.now.pieces.items k.numbers.now k.number k.pivots c.in-Err.fault c.requires c.in-Err.ensures.refusals
+    sorting_bare (cases_of k.about.now) k.known.now.pieces.items k.numbers.now k.number k.pivots c.in-Err.fault c.requires.bare c.in-Err.ensures.refusals
 
 pub rounds_of-requires-clause-points : goal.rounds_of-requires-clause-points
 rounds_of-requires-clause-points c =

@@ -4,7 +4,6 @@ ghost use Rattle.std.specs.Prelude.{◌≡◌, ◌≤◌, length, IfOk};
 ghost use Rattle.std.specs.Result.{IfErr};
 ghost use Rattle.tv_cases.specs.Systems.{cases_of};
 ghost use Rattle.tv_lexrank.specs.Attempt.{AreBelow};
-ghost use Rattle.tv_lexrank.specs.First.{AreComponents};
 ghost use Rattle.tv_nested.specs.Nested.{IsNested, RefusesNest, RefusesNode};
 ghost use Rattle.tv_nested.specs.Ranks.{AreNested, AreRanked, signs_at};
 ghost use Rattle.tv_nested.specs.Steps.{IsSignStart};
@@ -42,7 +41,6 @@ fn nested_parts(
     numbers: &[u32],
     parts: &[Part],
 ) -> Result<Nested, NestFault>
-    requires components { AreComponents (cases_of about.now) numbers.now }
     requires below { AreBelow (length parts.now) numbers.now }
     requires bounded { length parts.now ≤ 1024 }
     requires parts { AreNested (cases_of about.now) numbers.now parts.now }
