@@ -1,5 +1,5 @@
 -- What shows each case, from each piece of its location.
-use Rattle.std.proofs.Common.{◌⊎◌, inl, inr, All, ◌≡◌, ℕ, zero, suc, ◌+◌, ◌^◌, ◌<◌, ◌≤◌, List, [], ◌∷◌, ◌++◌, length, length-append, get_or, Option, None, Some, Vec, arith, refl, sym, ap, ◌∙◌, subst, append_assoc, ℤ, pos}
+use Rattle.std.proofs.Common.{inl, inr, All, ◌≡◌, ℕ, ◌+◌, ◌^◌, ◌<◌, ◌≤◌, List, [], ◌∷◌, ◌++◌, length, length-append, get_or, Option, None, Some, Vec, arith, refl, sym, ap, ◌∙◌, subst, ℤ, pos}
 use Rattle.std.specs.Global.{Global}
 use Rattle.std.proofs.lemmas.List.{append-nil}
 use Rattle.std.proofs.lemmas.List.Elements.{All-nil, All-cons}
@@ -8,13 +8,12 @@ use Rattle.tv_linear.specs.Arithmetic.{zeros}
 use Rattle.tv_linear.specs.Linear.{Linear, IsWithin}
 use Rattle.tv_linear.specs.Known.{Known}
 use Rattle.tv_linear.specs.Covers.{ShownAt}
-use Rattle.tv_linear.specs.declared.region.Piece.{Piece}
 use Rattle.tv_cases.specs.LinearCases.{LinearCase, CaseSystem}
 use Rattle.tv_cases.specs.Systems.{cases_of}
 use Rattle.tv_rank.specs.Given.{lists}
-use Rattle.tv_rank.specs.Ways.{Way, case_at, way_of, met_rows, rows_at}
+use Rattle.tv_rank.specs.Ways.{Way, case_at, way_of, met_rows}
 use Rattle.tv_lexrank.specs.Falling.{AreNarrowLines}
-use Rattle.tv_lexrank.specs.Known.{AreBare, way_rows}
+use Rattle.tv_lexrank.specs.Known.{way_rows}
 use Rattle.tv_lexrank.specs.More.{way_with, IsUnderMore}
 use Rattle.tv_lexrank.specs.Rounds.{place_in, falls_in, lines_of, ranks_at}
 use Rattle.tv_lexrank.specs.Shown.{owed_fall, RefutesWay, IsShownBy}
@@ -32,7 +31,7 @@ use Rattle.tv_nested.specs.declared.part.Part.{Part}
 use Rattle.tv_nested.specs.declared.ranking.Ranking.{Ranking}
 use Rattle.tv_nested.specs.Amounts.{rounds_in, tuple_at}
 use Rattle.tv_nested.specs.Apart.{IsApart, ShowsBare}
-use Rattle.tv_nested.specs.Parts.{tuple_in, signs_in, nested_ranks, IsNestedPart, ShowsFrom}
+use Rattle.tv_nested.specs.Parts.{tuple_in, signs_in, nested_ranks, ShowsFrom}
 use Rattle.tv_nested.specs.Ranks.{component_of, tuple_of_place, ranks_of, signs_at, way_from, ShowsCase}
 use Rattle.tv_nested.specs.Signs.{terms_there, signs_there, sign_rows}
 use Rattle.tv_nested.proofs.RankingLemmas.{component_in, tuple_length, signs_length}

@@ -1,5 +1,5 @@
 -- Depths below one at which no terms are nested.
-use Rattle.std.proofs.Common.{ℕ, ◌+◌, ◌<◌, List, length, inl, inr, arith, sym, subst}
+use Rattle.std.proofs.Common.{ℕ, ◌+◌, List, length, inl, inr, arith, sym, subst}
 use Rattle.tv_linear.specs.declared.region.Piece.{Piece}
 use Rattle.tv_linear.proofs.ListLaws.{last_or_below}
 use Rattle.tv_cases.specs.LinearCases.{CaseSystem}

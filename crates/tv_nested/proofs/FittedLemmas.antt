@@ -1,7 +1,7 @@
 -- The node of nested terms fits and is met, and it covers every location.
-use Rattle.std.proofs.Common.{◌⊎◌, inl, inr, All, ◌≡◌, ℕ, zero, suc, ◌+◌, ◌*◌, ◌-◌, ◌^◌, ◌<◌, ◌≤◌, List, [], ◌∷◌, ◌++◌, length, length-append, map, get_or, Option, None, Some, Bool, true, false, cond, ◌==◌, if◌then◌else◌, arith, refl, sym, ap, ◌∙◌, subst, ℤ, pos, negsuc, ◌≤ℤ◌}
+use Rattle.std.proofs.Common.{◌⊎◌, inl, inr, All, ◌≡◌, ℕ, zero, suc, ◌*◌, ◌<◌, ◌≤◌, List, [], ◌∷◌, ◌++◌, length, length-append, map, Option, None, Some, Bool, true, false, cond, ◌==◌, if◌then◌else◌, arith, refl, sym, ap, ◌∙◌, subst, ℤ, pos, negsuc, ◌≤ℤ◌}
 use Rattle.std.specs.Prelude.{slice_get, Contains}
-use Rattle.std.specs.List.{AllZip, flat_map, filter}
+use Rattle.std.specs.List.{filter}
 use Rattle.std.specs.Option.{option_map}
 use Rattle.std.proofs.lemmas.Int.{ints}
 use Rattle.std.proofs.lemmas.List.{length-map, append-nil, map_push}
@@ -11,34 +11,30 @@ use Rattle.std.proofs.lemmas.Option.{slice_get-map}
 use Rattle.tv_linear.specs.Linear.{Linear, columns, value, IsMet}
 use Rattle.tv_linear.specs.Arithmetic.{denial}
 use Rattle.tv_linear.specs.Known.{Known, given}
-use Rattle.tv_linear.specs.Covers.{IsMetCover}
 use Rattle.tv_linear.specs.declared.cover.CoverTree.{CoverTree}
 use Rattle.tv_linear.proofs.ListLaws.{same_or_below, contains_at}
 use Rattle.tv_linear.proofs.RowValues.{denial-met}
-use Rattle.tv_cases.specs.LinearCases.{CaseSystem}
 use Rattle.tv_cases.specs.Systems.{cases_of}
 use Rattle.tv_formula.specs.Properties.{term}
-use Rattle.tv_program.specs.Steps.{State}
 use Rattle.tv_cert.specs.declared.node.Marked.{Marked}
 use Rattle.tv_cert.specs.declared.node.Proof.{Proof}
 use Rattle.tv_cert.specs.declared.node.Node.{Node}
 use Rattle.tv_cert.specs.Claims.{about_with}
 use Rattle.tv_cert.specs.Nodes.{pieces_of}
 use Rattle.tv_cert.specs.Obligations.{About}
-use Rattle.tv_cert.specs.Pieces.{place_of, pieces_at, InPieces}
+use Rattle.tv_cert.specs.Pieces.{place_of, pieces_at}
 use Rattle.tv_cert.specs.Shapes.{PieceShape}
 use Rattle.tv_cert.specs.Targets.{owed_into, target_rows, changed_lists, no_fall}
 use Rattle.tv_cert.proofs.NodeLemmas.{pieces_are}
 use Rattle.tv_shape.specs.Made.{HasOwn, IsFitted}
 use Rattle.tv_shape.proofs.MadeLemmas.{node_fitted}
-use Rattle.tv_lexrank.specs.Certified.{IsRoot}
 use Rattle.tv_lexrank.proofs.NodeLemmas.{met_weaker}
 use Rattle.tv_nested.specs.declared.ranking.Ranking.{Ranking}
 use Rattle.tv_nested.specs.Nested.{CoversAll, IsNestedNode}
 use Rattle.tv_nested.specs.NodePieces.{piece_with, nested_piece, pieces_there, node_pieces, ArePieces}
 use Rattle.tv_nested.specs.NodeProofs.{Offer}
 use Rattle.tv_nested.specs.NodesShown.{IsRankedNode}
-use Rattle.tv_nested.specs.Ranks.{AreRanked, signs_at, all_ranks}
+use Rattle.tv_nested.specs.Ranks.{AreRanked, signs_at}
 use Rattle.tv_nested.specs.Signs.{sign_rows, first_pieces, sign_pieces}
 use Rattle.tv_nested.specs.Steps.{IsSignStart}
 use Rattle.tv_nested.proofs.ChangedLemmas.{first_length, piece_there}

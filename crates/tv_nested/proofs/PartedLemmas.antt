@@ -1,18 +1,16 @@
 -- The terms of one component.
-use Rattle.std.proofs.Common.{◌≡◌, ◌∙◌, ◌⊎◌, inl, inr, ℕ, zero, suc, ◌+◌, ◌<◌, ◌≤◌, ◌^◌, List, [], ◌∷◌, length, map, get_or, All, arith, refl, sym, ap, subst, ℤ, pos, ◌<ℤ◌, unsigned_abs}
+use Rattle.std.proofs.Common.{◌≡◌, ◌∙◌, ℕ, zero, suc, ◌+◌, ◌<◌, ◌≤◌, ◌^◌, List, [], ◌∷◌, length, get_or, All, arith, refl, sym, ap, subst, ℤ, pos, unsigned_abs}
 use Rattle.std.proofs.lemmas.Int.{ints}
 use Rattle.std.proofs.lemmas.List.{length-map}
 use Rattle.std.proofs.lemmas.List.Elements.{All-nil}
 use Rattle.tv_linear.specs.Linear.{columns, IsWithin}
 use Rattle.tv_linear.specs.declared.region.Piece.{Piece}
 use Rattle.tv_cases.specs.LinearCases.{CaseSystem}
-use Rattle.tv_simplex.specs.Outcomes.{IsShort}
 use Rattle.tv_simplex.specs.declared.fault.SolveFault.{SolveFault}
 use Rattle.tv_simplex.specs.declared.fault.SolveFault.TheVariants.{Width, Scale, Pivots, Size, Memory}
 use Rattle.tv_rank.specs.Given.{lists}
 use Rattle.tv_rank.specs.Answers.{IsRefusal, IsSystemFault}
-use Rattle.tv_rank.specs.Rankings.{listed_terms}
-use Rattle.tv_rank.specs.Ways.{Way, way_at, rows_at}
+use Rattle.tv_rank.specs.Ways.{Way, way_at}
 use Rattle.tv_rank.specs.declared.name.Name.{Name}
 use Rattle.tv_rank.specs.declared.name.Name.TheVariants as name
 use Rattle.tv_lexrank.specs.declared.fault.RankFault.{RankFault}
@@ -21,21 +19,20 @@ use Rattle.tv_lexrank.specs.declared.round.Round.{Round}
 use Rattle.tv_lexrank.specs.declared.sorting.Sorted.{Sorted}
 use Rattle.tv_lexrank.specs.Greedy.{Lead, IsNamed, RefusesGreedy}
 use Rattle.tv_lexrank.specs.Known.{AreBare, HaveRows}
-use Rattle.tv_lexrank.specs.Parts.{AreTakenOut, NamesPart}
+use Rattle.tv_lexrank.specs.Parts.{AreTakenOut}
 use Rattle.tv_lexrank.specs.Sorting.{IsSorted, NamesInside, RefusesSorting}
 use Rattle.tv_nested.specs.declared.depths.DepthFault.{DepthFault}
 use Rattle.tv_nested.specs.declared.fault.NestName.{NestName}
 use Rattle.tv_nested.specs.declared.fault.NestName.TheVariants as named
 use Rattle.tv_nested.specs.declared.fault.NestFault.{NestFault}
 use Rattle.tv_nested.specs.declared.fault.NestFault.TheVariants as fault
-use Rattle.tv_nested.specs.declared.nesting.Family.{Family}
 use Rattle.tv_nested.specs.declared.part.Part.{Part}
 use Rattle.tv_nested.specs.Answers.{system_of_set}
 use Rattle.tv_nested.specs.Depths.{IsBarred, IsNestedAt, IsDepthFault}
 use Rattle.tv_nested.specs.Families.{IsNestedFamily}
 use Rattle.tv_nested.specs.Nested.{AreBarredDepths, RefusesDepth}
 use Rattle.tv_nested.specs.Parted.{IsLeftBy, NamesNested, RefusesParted, IsBareFault, IsSameName, IsToldAs, refusal_of}
-use Rattle.tv_nested.specs.Parts.{IsFamilyOf, IsNestedPart, IsLeft}
+use Rattle.tv_nested.specs.Parts.{IsNestedPart, IsLeft}
 use Rattle.tv_nested.specs.Reading.{tuple_of, lines_of_cases}
 
 -- ---- refusals where no rows are known

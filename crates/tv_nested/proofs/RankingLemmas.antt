@@ -1,5 +1,5 @@
 -- The ranks and the signs of locations.
-use Rattle.std.proofs.Common.{◌⊎◌, inl, inr, All, ◌≡◌, ℕ, zero, suc, ◌+◌, ◌-◌, ◌<◌, ◌≤◌, List, [], ◌∷◌, ◌++◌, length, length-append, map, get_or, arith, refl, sym, ap, ◌∙◌, subst, pos}
+use Rattle.std.proofs.Common.{◌⊎◌, inl, inr, All, ◌≡◌, ℕ, zero, suc, ◌+◌, ◌-◌, ◌<◌, ◌≤◌, List, [], ◌∷◌, length, length-append, map, arith, refl, sym, ap, ◌∙◌, subst, pos}
 use Rattle.std.proofs.lemmas.List.{length-map}
 use Rattle.std.proofs.lemmas.List.Elements.{All-nil, All-cons, All-push, All-append, All-head, All-tail}
 use Rattle.tv_linear.specs.Linear.{Linear, columns}
@@ -13,7 +13,6 @@ use Rattle.tv_rank.specs.Rankings.{local_term}
 use Rattle.tv_rank.specs.declared.found.LocalTerm.{LocalTerm}
 use Rattle.tv_lexrank.specs.Pieces.{zero_ranks}
 use Rattle.tv_lexrank.specs.Rounds.{ranks_at, terms_at}
-use Rattle.tv_lexrank.specs.declared.round.Round.{Round}
 use Rattle.tv_lexrank.proofs.ShowLemmas.{local_wide}
 use Rattle.tv_lexrank.proofs.SortLemmas.{few_below}
 use Rattle.tv_nested.specs.declared.part.Part.{Part}

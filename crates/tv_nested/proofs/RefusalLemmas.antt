@@ -1,12 +1,10 @@
 -- Refusals of signs that are too wide.
-use Rattle.std.proofs.Common.{◌≡◌, inl, inr, ℕ, ◌+◌, ◌<◌, List, length, get_or, ℤ, refl, sym, ap, subst, ◌∙◌}
+use Rattle.std.proofs.Common.{◌≡◌, inl, inr, ℕ, ◌<◌, List, length, ℤ, refl, sym, ap, subst}
 use Rattle.std.specs.Prelude.{Contains}
-use Rattle.tv_linear.specs.Linear.{Linear}
 use Rattle.tv_linear.specs.declared.region.Piece.{Piece}
-use Rattle.tv_cases.specs.LinearCases.{LinearCase, CaseSystem}
+use Rattle.tv_cases.specs.LinearCases.{CaseSystem}
 use Rattle.tv_cases.specs.Systems.{cases_of}
 use Rattle.tv_farkas.specs.declared.budget.Budget.{Budget}
-use Rattle.tv_farkas.specs.declared.fault.CoverFault.{CoverFault}
 use Rattle.tv_rank.specs.Ways.{case_at}
 use Rattle.tv_lexrank.specs.First.{AreComponents}
 use Rattle.tv_lexrank.specs.Known.{AreBare}
@@ -17,9 +15,9 @@ use Rattle.tv_nested.specs.declared.part.Part.{Part}
 use Rattle.tv_nested.specs.declared.ranking.Ranking.{Ranking}
 use Rattle.tv_nested.specs.Attempts.{IsFirstUnnested, RefusesAttempt}
 use Rattle.tv_nested.specs.Nested.{IsUnnested, RefusesNest, RefusesNode}
-use Rattle.tv_nested.specs.Parts.{IsNestedPart, signs_in, tuple_in}
+use Rattle.tv_nested.specs.Parts.{signs_in, tuple_in}
 use Rattle.tv_nested.specs.Ranks.{AreRanked, component_of, tuple_of_place, signs_at, RefusesRanking}
-use Rattle.tv_nested.specs.SignFaults.{IsWideDenial, RefusesSigns}
+use Rattle.tv_nested.specs.SignFaults.{RefusesSigns}
 use Rattle.tv_nested.specs.Signs.{signs_there}
 use Rattle.tv_nested.specs.Steps.{IsWideStep, RefusesSignStep}
 use Rattle.tv_nested.proofs.RankingLemmas.{part_of}

@@ -2,7 +2,7 @@
 use Rattle.std.specs.Prelude.{◌≡◌, ℕ, List, [], ◌++◌}
 use Rattle.std.specs.List.{AllZip, flat_map}
 use Rattle.tv_formula.specs.Properties.{term}
-use Rattle.tv_cases.specs.LinearCases.{LinearCase, leaving}
+use Rattle.tv_cases.specs.LinearCases.{LinearCase}
 use Rattle.tv_cases.specs.Systems.{cases_of}
 use Rattle.tv_cert.specs.declared.node.Marked.{Marked}
 use Rattle.tv_cert.specs.declared.node.Proof.{Proof}

@@ -1,5 +1,5 @@
 -- The ranks of the locations, and what shows the cases by them.
-use Rattle.std.specs.Prelude.{◌≡◌, ℕ, suc, ◌+◌, ◌-◌, ◌≤◌, ◌<◌, List, [], ◌++◌, length, map, get_or}
+use Rattle.std.specs.Prelude.{ℕ, ◌-◌, ◌≤◌, List, ◌++◌, length, get_or}
 use Rattle.tv_linear.specs.Linear.{Linear}
 use Rattle.tv_linear.specs.declared.cover.CoverTree.{CoverTree}
 use Rattle.tv_linear.specs.declared.region.Piece.{Piece}
@@ -14,7 +14,6 @@ use Rattle.tv_lexrank.specs.More.{way_with}
 use Rattle.tv_lexrank.specs.Pieces.{zero_ranks}
 use Rattle.tv_lexrank.specs.Rounds.{ranks_at}
 use Rattle.tv_lexrank.specs.Shown.{IsShownBy}
-use Rattle.tv_lexrank.specs.declared.round.Round.{Round}
 use Rattle.tv_lexrank.specs.declared.shown.CaseShown.{CaseShown}
 use Rattle.tv_nested.specs.declared.fault.NestFault.{NestFault}
 use Rattle.tv_nested.specs.declared.fault.NestFault.TheVariants as fault

@@ -1,10 +1,6 @@
-use Rattle.std.proofs.Common.{◌≡◌, ◌∙◌, All, sym, subst}
+use Rattle.std.proofs.Common.{◌≡◌, ◌∙◌, All, subst}
 use Rattle.tv_linear.specs.Linear.{columns}
-use Rattle.tv_cases.specs.Systems.{cases_of}
-use Rattle.tv_rank.specs.Given.{lists}
 use Rattle.tv_lexrank.specs.Known.{piece_rows}
-use Rattle.tv_nested.specs.Attempts.{IsFirstUnnested, RefusesAttempt}
-use Rattle.tv_nested.proofs.RefusalLemmas.{nest_refused, attempt_refused, unnested}
 use Rattle.tv_nested.proofs.answered.nest.Goals as goal
 
 pub nest_components-requires-clause-known : goal.nest_components-requires-clause-known

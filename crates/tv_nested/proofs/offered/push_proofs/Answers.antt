@@ -1,4 +1,4 @@
-use Rattle.std.proofs.Common.{◌≡◌, ◌+◌, ◌≤◌, length, arith}
+use Rattle.std.proofs.Common.{◌≡◌, ◌+◌, length, arith}
 use Rattle.tv_nested.specs.Ranks.{signs_at}
 use Rattle.tv_nested.proofs.OfferedLemmas.{none_offered, pieces_more, all_pieces}
 use Rattle.tv_nested.proofs.offered.push_proofs.Goals as goal

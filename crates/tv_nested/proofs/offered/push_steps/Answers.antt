@@ -1,9 +1,8 @@
-use Rattle.std.proofs.Common.{◌≡◌, ◌∙◌, length, map, sym, subst, arith}
+use Rattle.std.proofs.Common.{◌≡◌, ◌∙◌, length, map, sym, arith}
 use Rattle.tv_cases.specs.LinearCases.{from_of, leaving}
 use Rattle.tv_cases.specs.Systems.{cases_of}
 use Rattle.tv_places.proofs.PlaceLemmas.{places_counted}
 use Rattle.tv_lexrank.proofs.StandLemmas.{leaving_at}
-use Rattle.tv_nested.specs.Ranks.{signs_at}
 use Rattle.tv_nested.proofs.OfferedLemmas.{all_steps, steps_more}
 use Rattle.tv_nested.proofs.offered.push_steps.Goals as goal
 

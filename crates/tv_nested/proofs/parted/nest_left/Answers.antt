@@ -1,4 +1,4 @@
-use Rattle.std.proofs.Common.{◌≡◌, length, sym, subst}
+use Rattle.std.proofs.Common.{length, sym, subst}
 use Rattle.tv_cases.specs.Systems.{cases_of}
 use Rattle.tv_rank.specs.Given.{lists, AreNumbered}
 use Rattle.tv_rank.specs.Sets.{PointsOf}

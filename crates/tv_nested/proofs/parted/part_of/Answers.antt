@@ -1,10 +1,8 @@
 use Rattle.std.proofs.Common.{rules, ◌≡◌, length, ap, sym, subst, arith}
 use Rattle.tv_cases.specs.Systems.{cases_of}
-use Rattle.tv_rank.specs.Given.{lists}
 use Rattle.tv_rank.specs.Sets.{PointsOf}
-use Rattle.tv_lexrank.specs.Greedy.{IsGreedy}
 use Rattle.tv_lexrank.proofs.SortLemmas.{few_below}
-use Rattle.tv_nested.proofs.PartedLemmas.{sorting_bare, sorting_told, greedy_bare, greedy_told, emptied_part}
+use Rattle.tv_nested.proofs.PartedLemmas.{sorting_bare}
 use Rattle.tv_nested.proofs.parted.part_of.Goals as goal
 
 pub told-requires : goal.told-requires

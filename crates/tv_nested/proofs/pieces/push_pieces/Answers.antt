@@ -1,5 +1,4 @@
-use Rattle.std.proofs.Common.{◌≡◌, ◌∙◌, ◌+◌, ◌≤◌, length, ap, subst, arith}
-use Rattle.tv_cases.specs.Systems.{cases_of}
+use Rattle.std.proofs.Common.{◌≡◌, ◌∙◌, ◌+◌, length, ap, subst, arith}
 use Rattle.tv_nested.specs.Ranks.{signs_at}
 use Rattle.tv_nested.specs.SignFaults.{RefusesSigns}
 use Rattle.tv_nested.proofs.PieceLemmas.{piece_made, none_pushed, pieces_pushed, pieces_ended}

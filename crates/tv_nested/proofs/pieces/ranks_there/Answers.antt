@@ -1,4 +1,4 @@
-use Rattle.std.proofs.Common.{◌∙◌, ◌+◌, ◌≤◌, length, ap, arith}
+use Rattle.std.proofs.Common.{length, ap, arith}
 use Rattle.tv_nested.proofs.PieceLemmas.{all_ranks_are}
 use Rattle.tv_nested.proofs.RankingLemmas.{tuple_length}
 use Rattle.tv_nested.proofs.pieces.ranks_there.Goals as goal

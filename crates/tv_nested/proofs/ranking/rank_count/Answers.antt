@@ -1,6 +1,6 @@
-use Rattle.std.proofs.Common.{inl, inr, ◌+◌, length, ap, arith}
+use Rattle.std.proofs.Common.{inl, inr, length, ap, arith}
 use Rattle.tv_linear.proofs.ListLaws.{last_or_below}
-use Rattle.tv_nested.specs.Amounts.{amount_in, rounds_in, tuple_at}
+use Rattle.tv_nested.specs.Amounts.{amount_in}
 use Rattle.tv_nested.proofs.ComponentLemmas.{rounds_are, tuple_is}
 use Rattle.tv_nested.proofs.RankingLemmas.{tuple_length}
 use Rattle.tv_nested.proofs.ranking.rank_count.Goals as goal

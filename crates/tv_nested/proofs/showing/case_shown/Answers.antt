@@ -1,6 +1,4 @@
-use Rattle.std.proofs.Common.{◌≡◌, ◌∙◌, ◌+◌, length, get_or, ap, sym, arith}
-use Rattle.tv_cases.specs.Systems.{cases_of}
-use Rattle.tv_rank.specs.Ways.{case_at}
+use Rattle.std.proofs.Common.{◌∙◌, ◌+◌, length, ap, sym, arith}
 use Rattle.tv_nested.specs.Ranks.{component_of, signs_at}
 use Rattle.tv_nested.specs.Signs.{sign_rows}
 use Rattle.tv_nested.proofs.CaseLemmas.{leaving_case}

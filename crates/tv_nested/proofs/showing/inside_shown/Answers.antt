@@ -1,10 +1,8 @@
-use Rattle.std.proofs.Common.{◌≡◌, ◌∙◌, ◌+◌, ◌<◌, ◌≤◌, length, get_or, ap, sym, subst, arith}
+use Rattle.std.proofs.Common.{◌∙◌, length, get_or, ap, subst, arith}
 use Rattle.tv_cases.specs.Systems.{cases_of}
-use Rattle.tv_rank.specs.Ways.{case_at}
 use Rattle.tv_lexrank.specs.Rounds.{place_in}
-use Rattle.tv_lexrank.proofs.SortLemmas.{of_case}
 use Rattle.tv_nested.specs.Parts.{ShowsFrom}
-use Rattle.tv_nested.specs.Ranks.{component_of, tuple_of_place, signs_at}
+use Rattle.tv_nested.specs.Ranks.{signs_at}
 use Rattle.tv_nested.specs.Signs.{sign_rows}
 use Rattle.tv_nested.proofs.CaseLemmas.{place_found, terms_many, set_case, bare_case}
 use Rattle.tv_nested.proofs.ComponentLemmas.{part_is}

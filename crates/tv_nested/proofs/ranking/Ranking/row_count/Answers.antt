@@ -1,4 +1,4 @@
-use Rattle.std.proofs.Common.{◌≡◌, ◌+◌, ◌<◌, length, sym, arith}
+use Rattle.std.proofs.Common.{◌<◌, length, sym, arith}
 use Rattle.tv_nested.specs.Ranks.{signs_at}
 use Rattle.tv_nested.proofs.RankingLemmas.{sign_rows_length, last_rows_length}
 use Rattle.tv_nested.proofs.ranking.Ranking.row_count.Goals as goal

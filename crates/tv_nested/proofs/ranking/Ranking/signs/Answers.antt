@@ -1,9 +1,6 @@
-use Rattle.std.proofs.Common.{◌≡◌, ◌∙◌, ◌≤◌, length, All, ap, sym, subst, arith}
-use Rattle.tv_linear.specs.Linear.{columns}
-use Rattle.tv_cases.specs.Systems.{cases_of}
+use Rattle.std.proofs.Common.{◌∙◌, ap}
 use Rattle.tv_nested.specs.Amounts.{tuple_at}
 use Rattle.tv_nested.specs.Reading.{tuple_of}
-use Rattle.tv_nested.specs.Ranks.{signs_at}
 use Rattle.tv_nested.specs.Signs.{signs_there}
 use Rattle.tv_nested.proofs.RankingLemmas.{signs_few, signs_wide}
 use Rattle.tv_nested.proofs.ranking.Ranking.signs.Goals as goal
