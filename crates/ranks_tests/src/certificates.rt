@@ -16,7 +16,7 @@ use tv_lexrank::{Ranked, first_attempt, ranked_certificate};
 use tv_program::Program;
 
 /// What is claimed where every run is to end.
-fn claim_of(alloc: Global, program: &Program) -> Result<Claim, Fail>
+pub(crate) fn claim_of(alloc: Global, program: &Program) -> Result<Claim, Fail>
     ensures variables { IfOk result (λ claim. claim_variables claim ≡ length (system_of program.now).variables) }
     ensures ends { IfOk result (λ claim. property_of claim.proved ≡ term) }
 {
@@ -25,7 +25,7 @@ fn claim_of(alloc: Global, program: &Program) -> Result<Claim, Fail>
     Ok(claim)
 }
 
-fn cases_in(alloc: Global, program: &Program) -> Result<Cases, Fail>
+pub(crate) fn cases_in(alloc: Global, program: &Program) -> Result<Cases, Fail>
     ensures { IfOk result (λ c. (cases_of c).variables ≡ length (system_of program.now).variables) }
 {
     match cases(alloc, program) {

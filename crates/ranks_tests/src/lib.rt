@@ -10,6 +10,8 @@ mod families;
 #[cfg(test)]
 mod known;
 #[cfg(test)]
+mod nested;
+#[cfg(test)]
 mod programs;
 #[cfg(test)]
 mod shown;

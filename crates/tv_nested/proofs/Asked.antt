@@ -1,16 +1,13 @@
 -- What is read off a solution answers the question.
-use Rattle.std.proofs.Common.{◌≡◌, ℕ, ◌*◌, ◌<◌, ◌≤◌, List, length, ℤ, arith, sym, subst}
+use Rattle.std.proofs.Common.{ℕ, ◌*◌, ◌<◌, ◌≤◌, List, ℤ, arith, sym, subst}
 use Rattle.tv_simplex.specs.Outcomes.{IsSolutionOf, IsNarrowSystem, GivesSolution}
 use Rattle.tv_rank.specs.declared.question.Question.{Question}
 use Rattle.tv_rank.specs.Questions.{ways_of, many_of}
 use Rattle.tv_rank.proofs.Asked.{asked_between}
 use Rattle.tv_nested.specs.declared.nesting.Family.{Family}
 use Rattle.tv_nested.specs.declared.nesting.Nesting.TheVariants.{Terms}
-use Rattle.tv_nested.specs.Families.{IsNestedFamily}
 use Rattle.tv_nested.specs.Found.{IsReadFrom, IsNestingOf}
-use Rattle.tv_nested.specs.NestedSystem.{terms_below}
 use Rattle.tv_nested.specs.Questions.{system_asked}
-use Rattle.tv_nested.specs.Reading.{tuple_read, lines_read, tuple_of, lines_of_cases}
 use Rattle.tv_nested.proofs.Families.{solution_is_family}
 use Rattle.tv_nested.proofs.Wholes.{few_unknowns}
 

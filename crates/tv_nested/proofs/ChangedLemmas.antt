@@ -1,5 +1,5 @@
 -- Rows before a case, and their denials.
-use Rattle.std.proofs.Common.{inl, inr, Vec, ◌≡◌, ℕ, zero, suc, ◌+◌, ◌-◌, ◌^◌, ◌<◌, ◌≤◌, List, [], ◌∷◌, ◌++◌, length, length-append, map, All, Option, None, Some, arith, refl, sym, ap, ◌∙◌, subst, append_assoc, ℤ, pos, neg_ℤ, ◌+ℤ◌, ◌-ℤ◌, ◌*ℤ◌, unsigned_abs, slice_index_or}
+use Rattle.std.proofs.Common.{inl, inr, Vec, ◌≡◌, ℕ, zero, suc, ◌+◌, ◌^◌, ◌<◌, ◌≤◌, List, [], ◌∷◌, ◌++◌, length, length-append, map, All, Option, None, Some, arith, refl, sym, ap, ◌∙◌, subst, ℤ, pos, neg_ℤ, ◌+ℤ◌, ◌-ℤ◌, ◌*ℤ◌, unsigned_abs}
 use Rattle.std.specs.Prelude.{slice_get}
 use Rattle.std.specs.Global.{Global}
 use Rattle.std.specs.Option.{option_map}
@@ -8,12 +8,9 @@ use Rattle.std.proofs.lemmas.List.{append-nil, length-map}
 use Rattle.std.proofs.lemmas.List.Elements.{All-nil, All-head, All-tail}
 use Rattle.tv_linear.specs.Linear.{Linear, columns, IsWithin}
 use Rattle.tv_linear.specs.Arithmetic.{denial}
-use Rattle.tv_linear.specs.Fits.{IsHeld}
-use Rattle.tv_linear.specs.Known.{Known, Term, given, denied, composed, number, known_number, term_number, KnownHeld, PlacesHeld, place_sum, as_given}
+use Rattle.tv_linear.specs.Known.{Known, Term, given, denied, composed, number, term_number, PlacesHeld, place_sum, as_given}
 use Rattle.tv_linear.specs.Terms.{terms_after}
-use Rattle.tv_linear.specs.Covers.{Shown, ShownAt, IsMetCover}
-use Rattle.tv_linear.specs.Refutation.{Refutes}
-use Rattle.tv_linear.specs.Depth.{splits}
+use Rattle.tv_linear.specs.Covers.{ShownAt, IsMetCover}
 use Rattle.tv_linear.specs.Same.{SameNumbers}
 use Rattle.tv_linear.specs.declared.cover.CoverTree.{CoverTree, Empty}
 use Rattle.tv_linear.proofs.KnownLemmas.{place_sum-neg, as_given-append, length-given}
@@ -26,7 +23,7 @@ use Rattle.tv_cases.proofs.BeforeLemmas.{before_same, all_before_even}
 use Rattle.tv_rank.specs.Given.{lists}
 use Rattle.tv_rank.specs.Ways.{Way}
 use Rattle.tv_lexrank.specs.Closing.{changed}
-use Rattle.tv_lexrank.specs.Falling.{AllHeld, AreNarrowLines}
+use Rattle.tv_lexrank.specs.Falling.{AllHeld}
 use Rattle.tv_lexrank.specs.Known.{way_rows}
 use Rattle.tv_lexrank.specs.More.{way_with}
 use Rattle.tv_lexrank.specs.Shown.{owed_fall}
@@ -36,7 +33,7 @@ use Rattle.tv_lexrank.proofs.MoreLemmas.{given_held}
 use Rattle.tv_cert.specs.Targets.{changed_lists}
 use Rattle.tv_nested.specs.Signs.{sign_rows, first_pieces, sign_pieces}
 use Rattle.tv_nested.specs.Splitting.{AreChanged, IsSplitTree}
-use Rattle.tv_nested.specs.Steps.{owed_rows, owed_signs, IsSignStep, ShowsSignStep, IsSignStart}
+use Rattle.tv_nested.specs.Steps.{owed_rows, owed_signs, ShowsSignStep, IsSignStart}
 use Rattle.tv_nested.proofs.SplitLemmas.{index_neg}
 
 -- ---- denials

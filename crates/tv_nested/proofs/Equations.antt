@@ -1,5 +1,5 @@
 -- What a solution of the nested system says of the terms and multipliers that are read off it.
-use Rattle.std.proofs.Common.{◌≡◌, inl, inr, ℕ, zero, suc, ◌+◌, ◌*◌, ◌<◌, List, [], ◌∷◌, length, length-append, map, get_or, Option, None, Some, Bool, true, false, ◌==◌, ◌&&◌, if◌then◌else◌, arith, refl, sym, ap, ◌∙◌, ℤ, pos, neg_ℤ, ◌+ℤ◌, ◌-ℤ◌, ◌*ℤ◌}
+use Rattle.std.proofs.Common.{◌≡◌, inl, inr, ℕ, zero, suc, ◌+◌, ◌*◌, ◌<◌, List, [], ◌∷◌, length, map, get_or, Option, None, Some, Bool, true, false, ◌==◌, ◌&&◌, if◌then◌else◌, arith, refl, sym, ap, ◌∙◌, ℤ, pos, neg_ℤ, ◌+ℤ◌, ◌-ℤ◌, ◌*ℤ◌}
 use Rattle.std.proofs.lemmas.Int.{ints}
 use Rattle.std.proofs.lemmas.List.{get_or-map}
 use Rattle.std.proofs.lemmas.Bool.{cases_eq, eq-eqb, ne_eqb}
@@ -31,7 +31,7 @@ use Rattle.tv_nested.specs.declared.unknown.Line.{Line}
 use Rattle.tv_nested.specs.NestedSystem.{identity, line, term_entry, entry, right_of, pairs_below, term_unknowns, local_unknowns, terms_below, multipliers_below, identity_unknowns, way_unknowns, steps_below, unknowns, lines, nested_system}
 use Rattle.tv_nested.specs.Reading.{read_at}
 use Rattle.tv_nested.proofs.Balances.{if_both, over_two}
-use Rattle.tv_nested.proofs.Barriers.{entry_of, some_line, some_unknown}
+use Rattle.tv_nested.proofs.Barriers.{entry_of}
 use Rattle.tv_nested.proofs.Places.{length-pairs, length-local, length-multipliers, length-way, of_lines, of_all_lines}
 
 -- ---- the numbers of the terms

@@ -1,16 +1,14 @@
 -- Numbers that balance every tuple of terms exclude the nested ones.
-use Rattle.std.proofs.Common.{◌≡◌, ℕ, zero, suc, ◌⊎◌, inl, inr, ◌<◌, Option, None, arith, refl, ap, ◌∙◌, subst, ℤ, pos, ◌+ℤ◌, ◌-ℤ◌, ◌*ℤ◌, ◌<ℤ◌, ◌≤ℤ◌}
+use Rattle.std.proofs.Common.{◌≡◌, ℕ, zero, suc, inl, inr, ◌<◌, Option, None, arith, refl, ℤ, pos, ◌+ℤ◌, ◌-ℤ◌, ◌*ℤ◌, ◌<ℤ◌, ◌≤ℤ◌}
 use Rattle.std.proofs.lemmas.Int.{ints}
-use Rattle.tv_linear.proofs.Ring.{distribute_z, not_above}
-use Rattle.tv_simplex.proofs.Ring.{by_sign, times_zero, mul_swap, times_less}
+use Rattle.tv_linear.proofs.Ring.{distribute_z}
+use Rattle.tv_simplex.proofs.Ring.{times_zero, times_less}
 use Rattle.tv_simplex.proofs.Sums.{total-add, total-less}
 use Rattle.tv_simplex.proofs.GoesOn.{total-not_above}
 use Rattle.tv_simplex.specs.Sums.{total}
 use Rattle.tv_farkas.proofs.SystemLemmas.{total-front}
 use Rattle.tv_rank.specs.Ways.{Way}
-use Rattle.tv_rank.specs.RankingSystem.{unit_at, after}
-use Rattle.tv_rank.proofs.Over.{over-same, over-add, over-times}
-use Rattle.tv_rank.proofs.Barriers.{value, width, row_of, Meets, there_before, there_after, before_at, after_at}
+use Rattle.tv_rank.proofs.Barriers.{Meets, before_at, after_at}
 use Rattle.tv_rank.proofs.Excluded.{IsPoint, change_at, ray, before-ray, after-ray, beyond, zero_or_above}
 
 -- what is linear and at most 0 at all points is so on rays too

@@ -1,9 +1,9 @@
 -- What is read off a solution of the nested system is a nested family.
-use Rattle.std.proofs.Common.{◌≡◌, inl, inr, ℕ, zero, suc, ◌+◌, ◌*◌, ◌^◌, ◌<◌, ◌≤◌, List, [], ◌∷◌, ◌++◌, length, length-append, map, get_or, All, Option, None, Some, Bool, true, false, ◌==◌, ◌&&◌, if◌then◌else◌, arith, refl, sym, ap, ◌∙◌, subst, ℤ, pos, neg_ℤ, ◌+ℤ◌, ◌-ℤ◌, ◌*ℤ◌, ◌≤ℤ◌, ◌<ℤ◌, unsigned_abs}
+use Rattle.std.proofs.Common.{◌≡◌, inl, inr, ℕ, zero, suc, ◌+◌, ◌*◌, ◌^◌, ◌<◌, ◌≤◌, List, [], length, length-append, map, get_or, All, Option, None, Some, Bool, true, false, ◌==◌, ◌&&◌, if◌then◌else◌, arith, refl, sym, ap, ◌∙◌, subst, ℤ, pos, neg_ℤ, ◌+ℤ◌, ◌-ℤ◌, ◌*ℤ◌, ◌≤ℤ◌, unsigned_abs}
 use Rattle.std.proofs.lemmas.Int.{ints}
-use Rattle.std.proofs.lemmas.List.{length-map, get_or_past, get_or-map}
+use Rattle.std.proofs.lemmas.List.{length-map, get_or_past}
 use Rattle.std.proofs.lemmas.List.Elements.{All-nil, All-push, All-from_get_or}
-use Rattle.std.proofs.lemmas.Bool.{cases_lt, eq-eqb, ne_eqb}
+use Rattle.std.proofs.lemmas.Bool.{cases_lt, eq-eqb}
 use Rattle.std.specs.List.{AllByRecursion}
 use Rattle.tv_linear.specs.Arithmetic.{constant_row}
 use Rattle.tv_linear.proofs.PlainLists.{get_or-zeros, length-table}
@@ -17,13 +17,12 @@ use Rattle.tv_simplex.proofs.SettleLemmas.{given_left}
 use Rattle.tv_simplex.specs.Outcomes.{IsShort, IsNarrow, IsSolutionOf, IsNarrowSystem}
 use Rattle.tv_rank.specs.Ways.{Way, met_rows, touches}
 use Rattle.tv_rank.specs.RankingSystem.{unit_at, after, entered, left}
-use Rattle.tv_rank.specs.Rankings.{term_at, local_term, listed_terms, IsShownBy}
+use Rattle.tv_rank.specs.Rankings.{term_at, listed_terms, IsShownBy}
 use Rattle.tv_rank.specs.Reading.{difference, differences, term_read, multipliers_read, line_read}
 use Rattle.tv_rank.specs.declared.found.LocalTerm.{LocalTerm}
 use Rattle.tv_rank.proofs.Over.{Inside, if_true, over}
 use Rattle.tv_rank.proofs.UnknownLists.{all_first, all_second, all_by_place}
 use Rattle.tv_rank.proofs.Barriers.{row_of, width, before_at, after_at, there_before, there_after}
-use Rattle.tv_rank.proofs.Excluded.{IsPoint}
 use Rattle.tv_rank.proofs.Points.{numbers_at, terms_wide}
 use Rattle.tv_rank.proofs.Lengths.{length-differences}
 use Rattle.tv_rank.proofs.Families.{touched_to, unit_small, if_small}
@@ -32,14 +31,14 @@ use Rattle.tv_rank.proofs.ShownRows.{places_held, shown}
 use Rattle.tv_nested.specs.declared.unknown.Unknown.{Unknown}
 use Rattle.tv_nested.specs.declared.unknown.Unknown.TheVariants.{Slack}
 use Rattle.tv_nested.specs.declared.unknown.Line.{Line}
-use Rattle.tv_nested.specs.NestedSystem.{identity, line, entry, right_of, terms_below, steps_below, unknowns, lines, nested_system}
-use Rattle.tv_nested.specs.Reading.{read_at, terms_read, tuple_read, way_read, lines_read}
+use Rattle.tv_nested.specs.NestedSystem.{identity, line, entry, terms_below, steps_below, unknowns, lines, nested_system}
+use Rattle.tv_nested.specs.Reading.{read_at, tuple_read, lines_read}
 use Rattle.tv_nested.specs.Tuples.{terms_of}
-use Rattle.tv_nested.specs.Families.{nested_term, row_before, step_row, end_row, line_at, IsColumn, IsNestedFamily}
+use Rattle.tv_nested.specs.Families.{row_before, step_row, line_at, IsColumn, IsNestedFamily}
 use Rattle.tv_nested.proofs.Barriers.{entry_of}
 use Rattle.tv_nested.proofs.UnknownLists.{of_terms, of_identity, of_steps}
 use Rattle.tv_nested.proofs.Places.{of_lines, of_all_lines, steps-more, steps-within}
-use Rattle.tv_nested.proofs.Equations.{line_start, before, changed}
+use Rattle.tv_nested.proofs.Equations.{line_start, before}
 use Rattle.tv_nested.proofs.Rational.{step_equation, end_equation, nested_there, nested_listed, right_in, right_last}
 use Rattle.tv_nested.proofs.Excluded.{earlier_at, NestedAt}
 use Rattle.tv_nested.proofs.Read.{nested-read, line-read, length-lines, tuple-length, tuple-all, lines-all, listed-read, listed-wide}

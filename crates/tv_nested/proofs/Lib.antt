@@ -20,3 +20,12 @@ pub mod WayLemmas
 pub mod PrefixLemmas
 pub mod TakenLemmas
 pub mod SetLemmas
+pub mod DepthLemmas
+pub mod PartedLemmas
+pub mod ComponentLemmas
+pub mod RankingLemmas
+pub mod CaseLemmas
+pub mod OfferedLemmas
+pub mod FittedLemmas
+pub mod RefusalLemmas
+pub mod PieceLemmas

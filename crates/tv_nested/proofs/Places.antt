@@ -1,5 +1,5 @@
 -- How many unknowns stand before a place, and that the rows of each identity are in the list of rows.
-use Rattle.std.proofs.Common.{◌≡◌, inl, inr, ℕ, zero, suc, ◌+◌, ◌*◌, ◌<◌, ◌≤◌, ◌-◌, List, [], ◌∷◌, ◌++◌, length, length-append, Option, None, Some, true, if◌then◌else◌, arith, refl, sym, ap, ◌∙◌, subst}
+use Rattle.std.proofs.Common.{◌≡◌, inl, inr, ℕ, zero, suc, ◌+◌, ◌*◌, ◌<◌, ◌≤◌, ◌-◌, [], ◌∷◌, ◌++◌, length, length-append, Option, None, Some, true, if◌then◌else◌, arith, refl, sym, ap, ◌∙◌, subst}
 use Rattle.std.specs.List.{AllByRecursion}
 use Rattle.tv_linear.proofs.ListLaws.{same_or_below}
 use Rattle.tv_cases.proofs.AmountLemmas.{suc-times}

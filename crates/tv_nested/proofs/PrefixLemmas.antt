@@ -1,23 +1,21 @@
 -- Over the cases that rounds leave no term of the rounds grows.
-use Rattle.std.proofs.Common.{◌≡◌, ℕ, zero, suc, ◌+◌, ◌<◌, ◌≤◌, ◌^◌, List, [], ◌∷◌, ◌++◌, length, map, get_or, All, Option, None, Some, Bool, true, false, ◌==◌, if◌then◌else◌, inl, inr, arith, refl, sym, ap, ◌∙◌, subst, append_assoc, ℤ, pos}
-use Rattle.std.specs.Option.{option_map}
-use Rattle.std.proofs.lemmas.Bool.{eqb-true, ne_eqb, cases_lt}
+use Rattle.std.proofs.Common.{◌≡◌, ℕ, zero, suc, ◌+◌, ◌<◌, ◌≤◌, List, [], ◌∷◌, ◌++◌, length, map, get_or, All, Bool, true, false, ◌==◌, if◌then◌else◌, inl, inr, arith, refl, sym, ap, ◌∙◌, subst, ℤ, pos}
+use Rattle.std.proofs.lemmas.Bool.{ne_eqb, cases_lt}
 use Rattle.std.proofs.lemmas.List.Elements.{All-nil, All-cons, All-head, All-tail, All-push, All-get_or}
 use Rattle.tv_linear.specs.Linear.{Linear, IsWithin}
-use Rattle.tv_linear.specs.Known.{Known, given, denied, less, as_given}
+use Rattle.tv_linear.specs.Known.{Known, denied, as_given}
 use Rattle.tv_linear.specs.Falls.{fall_rows_at}
 use Rattle.tv_linear.specs.Refutation.{Refutes}
-use Rattle.tv_linear.specs.Covers.{Shown, ShownAt}
+use Rattle.tv_linear.specs.Covers.{ShownAt}
 use Rattle.tv_linear.specs.declared.region.Piece.{Piece}
 use Rattle.tv_cases.specs.LinearCases.{CaseSystem}
 use Rattle.tv_rank.specs.Given.{lists}
-use Rattle.tv_rank.specs.Rankings.{local_term, change_row, IsShownBy, fall_of}
+use Rattle.tv_rank.specs.Rankings.{change_row, IsShownBy, fall_of}
 use Rattle.tv_rank.specs.Ways.{Way, way_of}
 use Rattle.tv_rank.proofs.Over.{if_false}
 use Rattle.tv_lexrank.specs.Closing.{changed}
 use Rattle.tv_lexrank.specs.Falling.{AreNarrowLines}
 use Rattle.tv_lexrank.specs.Greedy.{without, Lead, none, more, IsRound}
-use Rattle.tv_lexrank.specs.Known.{way_rows}
 use Rattle.tv_lexrank.specs.Rounds.{place_in, line_at, falling_of, lines_of, falls_in, terms_at}
 use Rattle.tv_lexrank.specs.Sorting.{Ascends}
 use Rattle.tv_lexrank.specs.declared.round.Round.{Round}

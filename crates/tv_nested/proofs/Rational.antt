@@ -1,5 +1,5 @@
 -- Solutions of the nested system at rational points: the terms that are read off are nested there.
-use Rattle.std.proofs.Common.{◌≡◌, ℕ, zero, suc, ◌+◌, ◌<◌, ◌≤◌, List, [], length, map, get_or, All, Option, None, Some, Bool, true, false, ◌==◌, if◌then◌else◌, arith, refl, sym, ap, ◌∙◌, ℤ, pos, neg_ℤ, ◌+ℤ◌, ◌-ℤ◌, ◌*ℤ◌, ◌≤ℤ◌, ◌<ℤ◌}
+use Rattle.std.proofs.Common.{◌≡◌, ℕ, zero, suc, ◌+◌, ◌<◌, ◌≤◌, List, length, get_or, Option, None, Some, Bool, true, false, ◌==◌, if◌then◌else◌, arith, refl, sym, ap, ◌∙◌, ℤ, pos, neg_ℤ, ◌+ℤ◌, ◌-ℤ◌, ◌*ℤ◌, ◌≤ℤ◌}
 use Rattle.std.proofs.lemmas.Int.{ints}
 use Rattle.std.proofs.lemmas.Bool.{eq-eqb, ne_eqb}
 use Rattle.tv_linear.specs.Linear.{Linear, columns}
@@ -11,9 +11,9 @@ use Rattle.tv_simplex.proofs.Sums.{total-zero}
 use Rattle.tv_simplex.proofs.Ring.{less_times, not_under_times}
 use Rattle.tv_rank.specs.Ways.{Way, met_rows}
 use Rattle.tv_rank.specs.RankingSystem.{unit_at, after}
-use Rattle.tv_rank.specs.Rankings.{term_at, value_before}
+use Rattle.tv_rank.specs.Rankings.{term_at}
 use Rattle.tv_rank.proofs.Over.{over, Inside, over-same, over-add, unit_times}
-use Rattle.tv_rank.proofs.Barriers.{width, row_of, before_at, after_at, there_before, there_after}
+use Rattle.tv_rank.proofs.Barriers.{width, row_of, before_at, after_at}
 use Rattle.tv_rank.proofs.Excluded.{IsPoint, change_at}
 use Rattle.tv_rank.proofs.Points.{numbers_at, point_of, pointed_at, before_pointed, after_pointed}
 use Rattle.tv_rank.proofs.Rational.{rows_low, numbers_there, sides_there, right_there}

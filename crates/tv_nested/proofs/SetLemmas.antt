@@ -1,5 +1,5 @@
 -- What shows the cases of a set over which terms are nested.
-use Rattle.std.proofs.Common.{◌≡◌, ℕ, zero, suc, ◌+◌, ◌-◌, ◌^◌, ◌<◌, ◌≤◌, List, [], ◌∷◌, ◌++◌, length, length-append, map, take, get_or, All, Option, None, Some, Vec, inl, inr, arith, refl, sym, ap, ◌∙◌, subst, append_assoc, ℤ, pos, unsigned_abs}
+use Rattle.std.proofs.Common.{◌≡◌, ℕ, zero, suc, ◌+◌, ◌-◌, ◌^◌, ◌<◌, ◌≤◌, List, [], ◌∷◌, ◌++◌, length, length-append, map, take, get_or, All, Vec, inl, inr, arith, refl, sym, ap, ◌∙◌, subst, append_assoc, ℤ, pos, unsigned_abs}
 use Rattle.std.specs.Global.{Global}
 use Rattle.std.proofs.lemmas.Int.{ints}
 use Rattle.std.proofs.lemmas.Bool.{cases_lt}
@@ -13,13 +13,12 @@ use Rattle.tv_linear.specs.Refutation.{Refutes}
 use Rattle.tv_linear.specs.Covers.{ShownAt}
 use Rattle.tv_linear.specs.Terms.{table, terms_after}
 use Rattle.tv_linear.specs.declared.region.Piece.{Piece}
-use Rattle.tv_linear.proofs.PlainLists.{zeros-narrow, length-table}
-use Rattle.tv_linear.proofs.ListLaws.{table-push}
+use Rattle.tv_linear.proofs.PlainLists.{zeros-narrow}
 use Rattle.tv_cases.specs.LinearCases.{LinearCase, CaseSystem}
 use Rattle.tv_rank.specs.Given.{lists}
 use Rattle.tv_rank.specs.Rankings.{local_term, IsShownBy}
 use Rattle.tv_rank.specs.declared.found.LocalTerm.{LocalTerm}
-use Rattle.tv_rank.specs.Ways.{Way, way_of, way_at, case_at, rows_at}
+use Rattle.tv_rank.specs.Ways.{Way, way_of, way_at, case_at}
 use Rattle.tv_lexrank.specs.Closing.{changed}
 use Rattle.tv_lexrank.specs.Falling.{AreNarrowLines}
 use Rattle.tv_lexrank.specs.Known.{AreBare, way_rows}
@@ -33,13 +32,13 @@ use Rattle.tv_lexrank.proofs.ZeroLines.{change_shown}
 use Rattle.tv_nested.specs.Families.{IsNestedFamily, line_at}
 use Rattle.tv_nested.specs.Lines.{own_line, under_line}
 use Rattle.tv_nested.specs.Parts.{tuple_in, IsNestedPart, nested_ranks, ShowsFrom}
-use Rattle.tv_nested.specs.Reading.{tuple_of, lines_of_cases}
+use Rattle.tv_nested.specs.Reading.{lines_of_cases}
 use Rattle.tv_nested.specs.SetFalls.{HasLines, ends_under, family_line, set_lines, IsSetFall}
 use Rattle.tv_nested.specs.Signs.{terms_there}
 use Rattle.tv_nested.specs.declared.part.Part.{Part}
 use Rattle.tv_nested.proofs.FrontLemmas.{under_none}
-use Rattle.tv_nested.proofs.PrefixLemmas.{IsKept, all_kept, falls_all, prefix_shown, kept_narrow}
-use Rattle.tv_nested.proofs.SignLemmas.{rows_by, rows_length, all_rows_length}
+use Rattle.tv_nested.proofs.PrefixLemmas.{IsKept, all_kept, prefix_shown, kept_narrow}
+use Rattle.tv_nested.proofs.SignLemmas.{rows_by, rows_length}
 use Rattle.tv_nested.proofs.SplitLemmas.{own_line_narrow}
 use Rattle.tv_nested.proofs.WayLemmas.{IsFamilyAt, fall_placed, end_placed}
 

@@ -1,11 +1,10 @@
 -- Covers that split at one row after the other are met.
-use Rattle.std.proofs.Common.{◌≡◌, ℕ, zero, suc, ◌+◌, ◌^◌, ◌<◌, ◌≤◌, List, [], ◌∷◌, ◌++◌, length, length-append, map, get_or, All, Option, None, Some, arith, refl, sym, ap, ◌∙◌, subst, append_assoc, ℤ, pos, neg_ℤ, unsigned_abs, ◌-◌, slice_index_or}
-use Rattle.std.specs.Prelude.{max}
+use Rattle.std.proofs.Common.{◌≡◌, ℕ, zero, suc, ◌+◌, ◌^◌, ◌<◌, ◌≤◌, List, [], ◌∷◌, ◌++◌, length, map, get_or, All, Option, Some, arith, refl, sym, ap, ◌∙◌, subst, append_assoc, ℤ, pos, neg_ℤ, unsigned_abs, ◌-◌, slice_index_or}
 use Rattle.std.proofs.lemmas.List.Elements.{All-nil, All-cons, All-head, All-tail, All-append}
 use Rattle.tv_linear.specs.Linear.{Linear, columns, IsNarrow, IsWithin}
-use Rattle.tv_linear.specs.Arithmetic.{zeros, denial}
+use Rattle.tv_linear.specs.Arithmetic.{zeros}
 use Rattle.tv_linear.specs.Known.{Known, given, denied}
-use Rattle.tv_linear.specs.Covers.{Shown, ShownAt, IsMetCover}
+use Rattle.tv_linear.specs.Covers.{Shown, IsMetCover}
 use Rattle.tv_linear.specs.Depth.{splits}
 use Rattle.tv_linear.specs.Same.{AreSame}
 use Rattle.tv_linear.specs.declared.cover.CoverTree.{CoverTree, Split', Empty, Into}
@@ -23,7 +22,7 @@ use Rattle.tv_lexrank.proofs.PadLemmas.{spread_shown}
 use Rattle.tv_lexrank.proofs.FallLemmas.{shown_append, spreads_narrow}
 use Rattle.tv_nested.specs.Lines.{own_line, own_lines}
 use Rattle.tv_nested.specs.Signs.{sign_rows}
-use Rattle.tv_nested.specs.Splitting.{AreChanged, split_rows, passed_rows, IsEntry, LeadsFrom, IsSplitFrom}
+use Rattle.tv_nested.specs.Splitting.{AreChanged, split_rows, passed_rows, IsEntry, IsSplitFrom}
 use Rattle.tv_nested.proofs.OwnLines.{AreSides, sides_held, given_side, denied_side, own_shown}
 
 -- ---- the rows of the splits

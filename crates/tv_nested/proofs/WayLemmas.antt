@@ -1,14 +1,13 @@
 -- What a nested family shows of one of its cases, from each piece of its location.
-use Rattle.std.proofs.Common.{◌≡◌, ℕ, zero, suc, ◌+◌, ◌-◌, ◌^◌, ◌<◌, ◌≤◌, List, [], ◌∷◌, ◌++◌, length, length-append, map, take, get_or, All, Option, None, Some, arith, refl, sym, ap, ◌∙◌, subst, append_assoc, ℤ, pos, neg_ℤ, ◌+ℤ◌, ◌-ℤ◌, ◌*ℤ◌, ◌≤ℤ◌, ◌<ℤ◌, unsigned_abs}
+use Rattle.std.proofs.Common.{◌≡◌, ℕ, zero, suc, ◌+◌, ◌-◌, ◌^◌, ◌<◌, ◌≤◌, List, [], ◌∷◌, ◌++◌, length, length-append, map, take, get_or, All, Option, None, Some, arith, refl, sym, ap, ◌∙◌, subst, append_assoc, ℤ, pos, neg_ℤ, ◌+ℤ◌, ◌-ℤ◌, ◌≤ℤ◌, ◌<ℤ◌, unsigned_abs}
 use Rattle.std.proofs.lemmas.Int.{ints}
 use Rattle.std.proofs.lemmas.List.{length-map, get_or-map}
-use Rattle.std.proofs.lemmas.List.Elements.{All-head}
 use Rattle.tv_linear.specs.Linear.{Linear, IsWithin, dot}
-use Rattle.tv_linear.specs.Arithmetic.{opposite, denial, constant_row}
+use Rattle.tv_linear.specs.Arithmetic.{opposite, denial}
 use Rattle.tv_linear.specs.Falls.{zero_row, fall_rows_at}
 use Rattle.tv_linear.specs.Known.{Known, given, denied, composed, less, number, known_number, KnownHeld, as_given}
 use Rattle.tv_linear.specs.Refutation.{Refutes}
-use Rattle.tv_linear.specs.Covers.{Shown, ShownAt}
+use Rattle.tv_linear.specs.Covers.{ShownAt}
 use Rattle.tv_linear.specs.Same.{SameNumbers}
 use Rattle.tv_linear.specs.Terms.{table, terms_after}
 use Rattle.tv_linear.proofs.KnownLemmas.{as_given-append, length-given}
@@ -19,17 +18,16 @@ use Rattle.tv_rank.specs.Rankings.{local_term, IsShownBy}
 use Rattle.tv_rank.specs.Ways.{Way, met_rows}
 use Rattle.tv_rank.specs.declared.found.LocalTerm.{LocalTerm}
 use Rattle.tv_lexrank.specs.Closing.{changed}
-use Rattle.tv_lexrank.specs.Known.{way_rows}
 use Rattle.tv_lexrank.specs.More.{way_with}
 use Rattle.tv_lexrank.specs.Falling.{AllHeld}
 use Rattle.tv_lexrank.proofs.Chained.{shown_more}
 use Rattle.tv_lexrank.proofs.MoreLemmas.{given_held}
-use Rattle.tv_nested.specs.Families.{nested_term, row_before, step_row, end_row, line_at, IsColumn, moved_row, IsNestedFamily}
+use Rattle.tv_nested.specs.Families.{nested_term, row_before, step_row, end_row, IsColumn, moved_row}
 use Rattle.tv_nested.specs.Lines.{own_line, under_line}
-use Rattle.tv_nested.specs.Signs.{terms_there, sign_rows}
+use Rattle.tv_nested.specs.Signs.{terms_there}
 use Rattle.tv_nested.proofs.FrontLemmas.{sum_of, AreSummed, IsTold, sum_last, plain_shown, front_shown, front_refuted, under_none, under_one}
 use Rattle.tv_nested.proofs.OwnLines.{IsSide, own_refutes}
-use Rattle.tv_nested.proofs.SignLemmas.{rows_by, rows_length, all_rows_length, Around, below_there, at_least_there, below_number, below_constant, opposite_number}
+use Rattle.tv_nested.proofs.SignLemmas.{rows_by, all_rows_length, below_there, at_least_there, below_number, below_constant, opposite_number}
 
 -- a line without its last multiplier
 pub front_of : (line ms : List ℤ) → line ≡ ms ++ pos 1 ∷ [] → take (length line - 1) line ≡ ms

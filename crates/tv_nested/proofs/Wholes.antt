@@ -1,10 +1,8 @@
 -- The nested system has as many numbers as it says, and its rows speak of cases of the set.
-use Rattle.std.proofs.Common.{◌≡◌, ℕ, zero, suc, ◌+◌, ◌*◌, ◌<◌, ◌≤◌, List, [], ◌∷◌, length, length-append, map, All, None, Some, arith}
+use Rattle.std.proofs.Common.{ℕ, zero, suc, ◌*◌, ◌<◌, ◌≤◌, [], ◌∷◌, length, length-append, map, All, None, Some, arith}
 use Rattle.std.proofs.lemmas.List.{length-map}
-use Rattle.std.proofs.lemmas.List.Elements.{All-nil, All-cons}
 use Rattle.std.specs.List.{AllByRecursion}
 use Rattle.tv_simplex.specs.Systems.{IsWhole}
-use Rattle.tv_cases.proofs.AmountLemmas.{suc-times}
 use Rattle.tv_rank.specs.Ways.{Way}
 use Rattle.tv_rank.proofs.Barriers.{width}
 use Rattle.tv_rank.proofs.Wholes.{all_listed, fewer, fewer_right}

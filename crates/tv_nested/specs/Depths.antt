@@ -1,5 +1,5 @@
 -- What the depths from 2 to 4 are answered.
-use Rattle.std.specs.Prelude.{ℕ, ◌≤◌, List, length, ℤ}
+use Rattle.std.specs.Prelude.{ℕ, ◌<◌, ◌≤◌, List, length, ℤ}
 use Rattle.tv_linear.specs.declared.region.Piece.{Piece}
 use Rattle.tv_cases.specs.LinearCases.{CaseSystem}
 use Rattle.tv_simplex.specs.Outcomes.{IsBarrierOf}
@@ -29,8 +29,13 @@ AreAnswered about known set (depths.Nested d family) = IsNestedAt about known se
 AreAnswered about known set (depths.None two three four) =
     IsBarred about known set 2 two.items × IsBarred about known set 3 three.items × IsBarred about known set 4 four.items
 
--- the refusal of the nested system of a depth from 2 to 4
+-- no tuple of at least 2 terms, and of fewer than a number, is nested over the set
+abbrev pub NoneBelow : CaseSystem → List Piece → List ℕ → ℕ → Type 0
+NoneBelow about known set d = (i : ℕ) → 2 ≤ i → i < d → NoneNested about.variables i (length set) (way_at about.cases known set)
+
+-- the refusal of the nested system of a depth from 2 to 4, where at no lesser depth terms are nested
 pub record IsDepthFault (about : CaseSystem) (known : List Piece) (set : List ℕ) (pivots : ℕ) (e : DepthFault) : Type 0 where
   pub deep : 2 ≤ e.depth
   pub shallow : e.depth ≤ 4
+  pub before : NoneBelow about known set e.depth
   pub refusal : IsRefusal (system_of_set about known set e.depth) pivots e.fault

@@ -15,3 +15,11 @@ pub mod Steps
 pub mod Parts
 pub mod Nested
 pub mod SetFalls
+pub mod Parted
+pub mod Attempts
+pub mod Amounts
+pub mod Ranks
+pub mod NodePieces
+pub mod NodeProofs
+pub mod Apart
+pub mod NodesShown

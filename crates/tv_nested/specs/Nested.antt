@@ -117,3 +117,9 @@ RefusesNest about budget (fault.Solve system e) =
     (numbers : List ℕ) × (known : List Piece) × AreComponents about numbers × AreBare known × NamesSystem about known numbers budget.pivots system e
 RefusesNest about budget (fault.Cover f) = IsWideIn about f
 RefusesNest about budget fault.Memory = Unit {0}
+
+-- a refusal of the node, where all components have terms: a sign is too wide
+abbrev pub RefusesNode : CaseSystem → NestFault → Type 0
+RefusesNode about (fault.Solve system e) = ⊥
+RefusesNode about (fault.Cover f) = IsWideIn about f
+RefusesNode about fault.Memory = Unit {0}

@@ -1,9 +1,8 @@
 -- Components whose cases rounds take out, but for a set over which terms are nested.
-use Rattle.std.specs.Prelude.{◌≡◌, ◌⊎◌, ℕ, suc, ◌+◌, ◌<◌, ◌≤◌, List, [], ◌∷◌, ◌++◌, length, ℤ}
+use Rattle.std.specs.Prelude.{◌≡◌, ℕ, suc, ◌<◌, ◌≤◌, List, [], ◌∷◌, ◌++◌, length, ℤ}
 use Rattle.tv_linear.specs.Linear.{Linear}
 use Rattle.tv_linear.specs.declared.region.Piece.{Piece}
 use Rattle.tv_cases.specs.LinearCases.{CaseSystem}
-use Rattle.tv_rank.specs.Given.{lists}
 use Rattle.tv_rank.specs.Sets.{PointsOf}
 use Rattle.tv_rank.specs.Ways.{way_at, case_at}
 use Rattle.tv_rank.specs.declared.found.LocalTerm.{LocalTerm}

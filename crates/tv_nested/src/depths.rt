@@ -5,7 +5,7 @@ ghost use Rattle.std.specs.Result.{IfErr};
 ghost use Rattle.tv_cases.specs.Systems.{cases_of};
 ghost use Rattle.tv_rank.specs.Given.{AreNumbered};
 ghost use Rattle.tv_rank.specs.Sets.{PointsOf};
-ghost use Rattle.tv_nested.specs.Depths.{IsBarred, AreAnswered, IsDepthFault};
+ghost use Rattle.tv_nested.specs.Depths.{IsBarred, NoneBelow, AreAnswered, IsDepthFault};
 
 use crate::solving::nested_terms;
 use crate::{Family, Nesting};
@@ -50,6 +50,7 @@ fn barrier_at(
     requires some { 0 < length set.now }
     requires deep { 2 ≤ depth }
     requires shallow { depth ≤ 4 }
+    requires before { NoneBelow (cases_of about.now) known.now.pieces.items set.now depth }
     requires pieces { length known.now.pieces.items ≡ (cases_of about.now).locations }
     requires points { PointsOf (cases_of about.now) known.now.pieces.items set.now }
     ensures barrier { IfOk result (λ y. IsBarred (cases_of about.now) known.now.pieces.items set.now depth y.items) }
@@ -64,7 +65,7 @@ fn barrier_at(
 }
 
 /// Terms of the least depth from 2 to 4 that are nested over a set of cases, or a barrier for each depth: then no tuple of 2, 3 or 4
-/// terms is nested over the set, over the rationals. A refusal names its depth.
+/// terms is nested over the set, over the rationals. A refusal names its depth: at no lesser one terms are nested.
 pub fn nested_depths(
     alloc: Global,
     about: &Cases,

@@ -1,6 +1,8 @@
 //! Terms that become decreasing one after the other, for a set of linear cases, or a barrier that excludes every such tuple of terms.
 #![tactic(auto)]
 
+mod answered;
+mod attempt;
 mod certificate;
 mod depths;
 mod entries;
@@ -9,17 +11,25 @@ mod law;
 mod listing;
 mod nested;
 mod nesting;
+mod node;
+mod offered;
 mod part;
+mod parted;
+mod pieces;
+mod ranking;
 mod reading;
+mod showing;
 mod shown;
 mod signs;
 mod solution;
 mod solving;
 mod splitting;
 mod stepping;
+mod steps;
 mod system;
 mod unknown;
 
+pub use answered::nest;
 pub use certificate::nested_certificate;
 pub use depths::{DepthFault, Depths, nested_depths};
 pub use fault::{NestFault, NestName};

@@ -1,10 +1,9 @@
-use Rattle.std.proofs.Common.{◌≡◌, suc, ◌+◌, ◌*◌, ◌++◌, ◌∷◌, [], length, arith, ap, ◌∙◌, pos}
+use Rattle.std.proofs.Common.{◌≡◌, suc, ◌+◌, ◌*◌, ◌++◌, ◌∷◌, [], arith, ap, ◌∙◌, pos}
 use Rattle.tv_cases.proofs.AmountLemmas.{suc-times}
 use Rattle.std.proofs.lemmas.List.{map-append}
 use Rattle.tv_rank.specs.Given.{lists}
-use Rattle.tv_rank.specs.Questions.{ways_of}
 use Rattle.tv_rank.specs.Reading.{multipliers_read}
-use Rattle.tv_nested.specs.ReadOff.{size_at, way_of, line_place}
+use Rattle.tv_nested.specs.ReadOff.{size_at, way_of}
 use Rattle.tv_nested.proofs.Room.{line_ends}
 use Rattle.tv_nested.proofs.reading.lines_at.Goals as goal
 

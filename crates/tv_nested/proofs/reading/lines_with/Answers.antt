@@ -1,10 +1,9 @@
 use Rattle.std.proofs.Common.{◌≡◌, suc, ◌+◌, ◌*◌, ◌++◌, ◌∷◌, [], arith, ap, ◌∙◌}
-use Rattle.tv_cases.proofs.AmountLemmas.{suc-times}
 use Rattle.std.proofs.lemmas.List.{map-append}
 use Rattle.tv_rank.specs.Given.{lists}
-use Rattle.tv_rank.specs.Questions.{ways_of, many_of}
+use Rattle.tv_rank.specs.Questions.{ways_of}
 use Rattle.tv_nested.specs.Reading.{lines_of_cases}
-use Rattle.tv_nested.specs.ReadOff.{size_at, way_of, line_place, lines_until}
+use Rattle.tv_nested.specs.ReadOff.{size_at, lines_until}
 use Rattle.tv_nested.proofs.Places.{steps-more}
 use Rattle.tv_nested.proofs.Room.{lines_end, line_ends}
 use Rattle.tv_nested.proofs.reading.lines_with.Goals as goal

@@ -1,4 +1,4 @@
-use Rattle.std.proofs.Common.{◌+◌, ◌*◌, ◌∙◌, sym, arith}
+use Rattle.std.proofs.Common.{◌∙◌, sym, arith}
 use Rattle.tv_rank.specs.Questions.{ways_of, many_of}
 use Rattle.tv_nested.proofs.Places.{terms-more}
 use Rattle.tv_nested.proofs.Room.{terms_end}

@@ -1,4 +1,4 @@
-use Rattle.std.proofs.Common.{◌+◌, ◌*◌, ◌∙◌, sym, arith}
+use Rattle.std.proofs.Common.{◌∙◌, sym, arith}
 use Rattle.tv_nested.proofs.Room.{term_ends}
 use Rattle.tv_nested.proofs.reading.push_term.Goals as goal
 

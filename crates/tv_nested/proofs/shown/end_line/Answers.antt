@@ -1,5 +1,4 @@
-use Rattle.std.proofs.Common.{◌≡◌, ◌∙◌, ◌-◌, length, take, arith, ap, subst}
-use Rattle.std.specs.Prelude.{IfOk}
+use Rattle.std.proofs.Common.{◌≡◌, ◌∙◌, ◌-◌, length, take, arith, ap}
 use Rattle.tv_nested.specs.Lines.{under_line}
 use Rattle.tv_nested.specs.SetFalls.{family_line, end_line}
 use Rattle.tv_nested.proofs.shown.end_line.Goals as goal

@@ -1,4 +1,4 @@
-use Rattle.std.proofs.Common.{◌≡◌, ◌∙◌, ◌+◌, ◌++◌, [], ◌∷◌, suc, map, arith, ap, sym, append_assoc}
+use Rattle.std.proofs.Common.{◌≡◌, ◌∙◌, ◌+◌, ◌++◌, [], ◌∷◌, suc, arith, ap, sym, append_assoc}
 use Rattle.std.proofs.lemmas.List.{map_push}
 use Rattle.tv_linear.specs.Terms.{table}
 use Rattle.tv_linear.proofs.ListLaws.{table-push}

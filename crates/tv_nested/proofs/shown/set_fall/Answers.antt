@@ -1,4 +1,4 @@
-use Rattle.std.proofs.Common.{◌≡◌, ◌∙◌, ◌+◌, ◌++◌, [], ◌∷◌, map, ap, append_assoc, pos}
+use Rattle.std.proofs.Common.{◌∙◌, ◌+◌, ◌++◌, [], ◌∷◌, map, ap, append_assoc, pos}
 use Rattle.std.proofs.lemmas.List.{map_push}
 use Rattle.tv_linear.specs.Arithmetic.{zeros}
 use Rattle.tv_rank.specs.Given.{lists}

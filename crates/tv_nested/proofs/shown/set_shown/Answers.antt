@@ -1,6 +1,5 @@
-use Rattle.std.proofs.Common.{◌≡◌, ◌∙◌, ◌<◌, ◌≤◌, length, All, get_or, arith, rules, ap, sym, subst}
+use Rattle.std.proofs.Common.{◌≡◌, ◌∙◌, ◌<◌, length, get_or, arith, ap, sym, subst}
 use Rattle.tv_cases.specs.Systems.{cases_of}
-use Rattle.tv_lexrank.specs.Covering.{IsLined}
 use Rattle.tv_lexrank.specs.declared.shown.CaseShown.TheVariants.{Untaken}
 use Rattle.tv_lexrank.proofs.SortLemmas.{few_below}
 use Rattle.tv_rank.specs.Ways.{case_at}

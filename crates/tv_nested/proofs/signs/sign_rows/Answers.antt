@@ -1,5 +1,4 @@
-use Rattle.std.proofs.Common.{◌≡◌, ◌∙◌, ◌<◌, ◌++◌, [], ◌∷◌, get_or, length, map, take, arith, sym, ap, subst}
-use Rattle.tv_linear.specs.Arithmetic.{denial}
+use Rattle.std.proofs.Common.{◌≡◌, ◌∙◌, ◌<◌, ◌++◌, [], ◌∷◌, get_or, length, arith, sym, ap, subst}
 use Rattle.tv_nested.proofs.SignLemmas.{rows_next, rows_all}
 use Rattle.tv_nested.proofs.signs.sign_rows.Goals as goal
 

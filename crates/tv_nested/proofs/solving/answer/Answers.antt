@@ -1,5 +1,5 @@
-use Rattle.std.proofs.Common.{ℕ, ◌<◌, arith, sym, subst}
-use Rattle.tv_simplex.specs.Outcomes.{IsNarrowSystem, IsFirstWide}
+use Rattle.std.proofs.Common.{◌<◌, arith, sym, subst}
+use Rattle.tv_simplex.specs.Outcomes.{IsNarrowSystem}
 use Rattle.tv_simplex.specs.Systems.{IsWhole}
 use Rattle.tv_rank.specs.declared.question.Question.{Question}
 use Rattle.tv_rank.specs.Questions.{ways_of, many_of}

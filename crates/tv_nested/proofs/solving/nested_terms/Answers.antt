@@ -1,8 +1,3 @@
-use Rattle.std.proofs.Common.{sym, subst}
-use Rattle.tv_cases.specs.Systems.{cases_of}
-use Rattle.tv_cases.specs.Views.{case_views}
-use Rattle.tv_rank.specs.Ways.{way_at}
-use Rattle.tv_rank.specs.Rankings.{HasPoint}
 use Rattle.tv_nested.proofs.solving.nested_terms.Goals as goal
 
 pub answer-requires-clause-points : goal.answer-requires-clause-points

@@ -1,4 +1,4 @@
-use Rattle.std.proofs.Common.{All, take, ◌++◌, ◌+◌, [], ◌∷◌, sym, subst, arith, rules, ◌<◌, length}
+use Rattle.std.proofs.Common.{All, take, sym, subst, rules, ◌<◌, length}
 use Rattle.std.proofs.lemmas.List.Elements.{All-push}
 use Rattle.tv_linear.specs.Linear.{IsNarrow}
 use Rattle.tv_linear.proofs.ListLaws.{take_next, take_past}

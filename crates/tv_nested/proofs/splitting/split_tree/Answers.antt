@@ -1,5 +1,4 @@
-use Rattle.std.proofs.Common.{◌≡◌, ◌+◌, ◌-◌, length, arith, subst}
-use Rattle.tv_nested.specs.Splitting.{IsSplitFrom}
+use Rattle.std.proofs.Common.{◌≡◌, ◌-◌, length, arith}
 use Rattle.tv_nested.proofs.splitting.split_tree.Goals as goal
 
 pub split_at-requires-clause-rest : goal.split_at-requires-clause-rest

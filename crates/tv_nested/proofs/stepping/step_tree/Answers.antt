@@ -1,7 +1,5 @@
-use Rattle.std.proofs.Common.{◌∙◌, sym, subst}
-use Rattle.tv_linear.specs.declared.cover.CoverTree.{Empty}
+use Rattle.std.proofs.Common.{◌∙◌}
 use Rattle.tv_cases.specs.Views.{case_view}
-use Rattle.tv_nested.specs.Steps.{ShowsSignStep}
 use Rattle.tv_nested.proofs.ChangedLemmas.{untaken_step}
 use Rattle.tv_nested.proofs.stepping.step_tree.Goals as goal
 

@@ -1,0 +1,10 @@
+use Rattle.std.proofs.Common.{◌≡◌, ◌∙◌, All, subst}
+use Rattle.tv_linear.specs.Linear.{columns}
+use Rattle.tv_lexrank.specs.Known.{piece_rows}
+use Rattle.tv_nested.proofs.answered.nest.Goals as goal
+
+pub nest_components-requires-clause-known : goal.nest_components-requires-clause-known
+nest_components-requires-clause-known c = record {
+  one_each = c.in_ok-known.ensures.as_many ∙ c.locations.ensures.same;
+  over = subst (λ n. All (λ p. All (λ r. columns r ≡ n) (piece_rows p)) c.in_ok-known.known.pieces.items) c.variables.ensures.same c.in_ok-known.ensures.over;
+}
