@@ -15,3 +15,5 @@ mod programs;
 mod shown;
 #[cfg(test)]
 mod splits;
+#[cfg(test)]
+mod visits;
