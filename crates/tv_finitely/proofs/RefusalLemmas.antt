@@ -15,10 +15,12 @@ use Rattle.tv_rank.specs.Ways.{rows_at, case_at}
 use Rattle.tv_lexrank.specs.declared.fault.RankFault.{RankFault}
 use Rattle.tv_lexrank.specs.declared.fault.RankFault.TheVariants as ranking
 use Rattle.tv_lexrank.specs.Closing.{RefusesClosed}
+use Rattle.tv_lexrank.specs.First.{AreComponents}
 use Rattle.tv_lexrank.specs.Known.{AreBare}
 use Rattle.tv_finitely.specs.declared.fault.VisitFault.{VisitFault}
 use Rattle.tv_finitely.specs.declared.fault.VisitFault.TheVariants.{Rank, Solve, Cover, Memory}
 use Rattle.tv_finitely.specs.Found.{RefusesBegun, RefusesShown, RefusesUnder}
+use Rattle.tv_finitely.specs.Parts.{RefusesAttempt}
 use Rattle.tv_finitely.specs.Refusals.{RefusesFirst, RefusesRows, handed_on, IsClosed, unranked, AreKept, AreFound, RefusesFinitely}
 use Rattle.tv_finitely.specs.Splits.{SplitSystem}
 
@@ -41,6 +43,12 @@ shown_under s known budget (ranking.Solve system e) h = absurd h
 shown_under s known budget (ranking.Open taken values) h = h
 shown_under s known budget (ranking.Cover f) h = h
 shown_under s known budget ranking.Memory h = tt
+
+pub attempt_under : (s : SplitSystem) (known : List Piece) (numbers : List ℕ) (budget : Budget) → AreComponents s.system numbers → (e : RankFault) → RefusesAttempt s known numbers budget.pivots e → RefusesUnder s known budget e
+attempt_under s known numbers budget are (ranking.Solve system e) h = (numbers, are, h)
+attempt_under s known numbers budget are (ranking.Open taken values) h = absurd h
+attempt_under s known numbers budget are (ranking.Cover f) h = absurd h
+attempt_under s known numbers budget are ranking.Memory h = tt
 
 -- ---- where no rows are known
 none_among : (known : List Piece) (l : ℕ) (r : Linear) → AreBare known → Contains (rows_at known l) r → ⊥

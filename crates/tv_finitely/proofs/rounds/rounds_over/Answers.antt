@@ -1,4 +1,5 @@
-use Rattle.std.proofs.Common.{◌∙◌, sym, ap, subst, length, arith}
+use Rattle.std.proofs.Common.{◌∙◌, sym, ap, subst, length, arith, Bool}
+use Rattle.std.specs.Prelude.{MatchBool}
 use Rattle.tv_rank.specs.Sets.{PointsOf}
 use Rattle.tv_cases.specs.Systems.{cases_of}
 use Rattle.tv_rank.specs.Given.{AreNumbered, lists}
@@ -23,11 +24,58 @@ rounds-init c =
       points = c.requires.points;
     }
 
+pub take_turn-requires-clause-points : goal.take_turn-requires-clause-points
+take_turn-requires-clause-points c = subst (λ z. PointsOf (cases_of c.args.component.now.about.now) c.args.component.now.known.now.pieces.items z) (sym c.deref-in-rounds.ensures.value) c.rounds.invariant.points
+
+pub returns-then-not-some_enters-clause-rounds : goal.returns-then-not-some_enters-clause-rounds
+returns-then-not-some_enters-clause-rounds c =
+    let marks = c.args.entering.now in
+    let out = subst (λ (b : Bool). MatchBool b (SomeEnters marks c.deref.result.now) (NoneEnters marks c.deref.result.now)) c.if-not-some_enters.true c.some_enters.ensures in
+    record {
+      left = c.rounds.left.items;
+      lead = c.rounds.invariant.lead;
+      none_enters = subst (NoneEnters marks) c.deref.ensures.value out;
+    }
+
+pub returns-in-Stuck-clause-rounds : goal.returns-in-Stuck-clause-rounds
+returns-in-Stuck-clause-rounds c =
+    let about = cases_of c.args.component.now.about.now in
+    let known = c.args.component.now.known.now.pieces.items in
+    let marks = c.args.entering.now in
+    let some = subst (λ (b : Bool). MatchBool b (SomeEnters marks c.deref.result.now) (NoneEnters marks c.deref.result.now)) c.if-not-some_enters.false c.some_enters.ensures in
+    record {
+      rounds = c.rounds.rounds.items;
+      lead = c.rounds.invariant.lead;
+      enters = subst (SomeEnters marks) c.deref.ensures.value some;
+      points = c.rounds.invariant.points;
+      each_barred = subst (λ t. IsTurn about known c.rounds.left.items t) c.in-Stuck.is (subst (λ z. IsTurn about known z c.in-Ok.turn) c.deref-in-rounds.ensures.value c.in-Ok.ensures.turn);
+    }
+
+pub returns-in-Err-clause-refusals : goal.returns-in-Err-clause-refusals
+returns-in-Err-clause-refusals c =
+    let about = cases_of c.args.component.now.about.now in
+    let known = c.args.component.now.known.now.pieces.items in
+    let marks = c.args.entering.now in
+    let some = subst (λ (b : Bool). MatchBool b (SomeEnters marks c.deref.result.now) (NoneEnters marks c.deref.result.now)) c.if-not-some_enters.false c.some_enters.ensures in
+    turn_refused about known marks c.args.set.items c.args.component.now.pivots c.args.component.now.number c.rounds.rounds.items c.rounds.left.items c.rounds.round c.rounds.invariant.lead c.rounds.invariant.as_many
+    (subst (SomeEnters marks) c.deref.ensures.value some) c.in-Err.fault
+    (subst (λ z. RefusesTurn about known z c.args.component.now.pivots c.args.component.now.number c.rounds.round c.in-Err.fault) c.deref-in-rounds.ensures.value c.in-Err.ensures.refusals)
+
+pub returns-clause-rounds : goal.returns-clause-rounds
+returns-clause-rounds c =
+    let f = c.rounds.invariant.fewer in
+    let t = c.rounds-test.false in
+    record {
+      left = c.rounds.left.items;
+      lead = c.rounds.invariant.lead;
+      none_enters = none_left c.args.entering.now c.rounds.left.items (omega (arith, f, t));
+    }
+
 pub rounds-preserved : goal.rounds-preserved
 rounds-preserved c =
     let about = cases_of c.args.component.now.about.now in
     let known = c.args.component.now.known.now.pieces.items in
-    let turn = subst (λ t. IsTurn about known c.rounds.left.items t) c.in-Took.is (subst (λ z. IsTurn about known z c.in-Ok.turn) c.deref-2.ensures.value c.in-Ok.ensures.turn) in
+    let turn = subst (λ t. IsTurn about known c.rounds.left.items t) c.in-Took.is (subst (λ z. IsTurn about known z c.in-Ok.turn) c.deref-in-rounds.ensures.value c.in-Ok.ensures.turn) in
     let rest = c.in_ok-left-in-Took.ensures ∙ ap (λ z. without z c.in-Took.taken.place) c.deref-in-Took.ensures.value in
     let m = length-without c.rounds.left.items c.in-Took.taken.place turn.within in
     let r = ap length rest in
