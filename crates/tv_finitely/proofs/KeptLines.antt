@@ -87,9 +87,9 @@ module _ (v : ℕ) (w : Way) where
 
   -- ---- a case that leaves its component
   pub leaving_padded : (component other : ℕ) (rounds others : List Round) (count : ℕ) → other < component → component < 2 ^ 32 → ShownAt n (way_rows w) (owed_fall v w (padded_ranks v component rounds w.taken.from count) (padded_ranks v other others w.taken.to count) 1) (zero_line met ∷ zero_line met ∷ [])
-  leaving_padded component other rounds others count less small =
+  leaving_padded component other rounds others count lower small =
       fall_shown_padded (ranks_at v component rounds w.taken.from) (ranks_at v other others w.taken.to) (zero_ranks v (count - 1 - length rounds)) (zero_ranks v (count - 1 - length others)) 1 (zero_line met ∷ zero_line met ∷ [])
-      (leaving_falls v w component other rounds others less small (zero_line met ∷ zero_line met ∷ []) refl)
+      (leaving_falls v w component other rounds others lower small (zero_line met ∷ zero_line met ∷ []) refl)
 
 -- ---- a case inside a component
 module _ (about : CaseSystem) (known : List Piece) (left set : List ℕ) (rounds : List Round) (taken : Taken about known left set rounds) (component k count : ℕ) (small : component < 2 ^ 32) (stands : StandsIn set k) where

@@ -1,10 +1,12 @@
--- Refusals, as they are handed on.
+-- Refusals as they are handed on, and what visits say.
 use Rattle.std.proofs.Common.{◌≡◌, inl, inr, ℕ, ◌<◌, List, [], length, arith, ap, sym, ◌∙◌, subst, ℤ}
-use Rattle.std.specs.Prelude.{Contains, Result, Ok, Err}
+use Rattle.std.specs.Prelude.{Contains, Result, Ok, Err, IfOk}
 use Rattle.std.specs.Result.{IfErr}
 use Rattle.tv_linear.specs.Linear.{Linear}
 use Rattle.tv_linear.specs.declared.region.Piece.{Piece}
 use Rattle.tv_linear.specs.declared.region.Region.{Region}
+use Rattle.tv_program.specs.Systems.{System}
+use Rattle.tv_formula.specs.Properties.{Property}
 use Rattle.tv_cases.specs.LinearCases.{CaseSystem}
 use Rattle.tv_farkas.specs.declared.budget.Budget.{Budget}
 use Rattle.tv_farkas.specs.declared.fault.CoverFault.{CoverFault}
@@ -19,10 +21,14 @@ use Rattle.tv_lexrank.specs.First.{AreComponents}
 use Rattle.tv_lexrank.specs.Known.{AreBare}
 use Rattle.tv_finitely.specs.declared.fault.VisitFault.{VisitFault}
 use Rattle.tv_finitely.specs.declared.fault.VisitFault.TheVariants.{Rank, Solve, Cover, Memory}
-use Rattle.tv_finitely.specs.Found.{RefusesBegun, RefusesShown, RefusesUnder}
+use Rattle.tv_finitely.specs.declared.visits.Visits.{Visits}
+use Rattle.tv_finitely.specs.Finite.{HoldsFinitely}
+use Rattle.tv_finitely.specs.Found.{AreVisits, RefusesBegun, RefusesShown, RefusesUnder}
+use Rattle.tv_finitely.specs.Obligations.{visits_of}
 use Rattle.tv_finitely.specs.Parts.{RefusesAttempt}
 use Rattle.tv_finitely.specs.Refusals.{RefusesFirst, RefusesRows, handed_on, IsClosed, unranked, AreKept, AreFound, RefusesFinitely}
-use Rattle.tv_finitely.specs.Splits.{SplitSystem}
+use Rattle.tv_finitely.specs.Splits.{SplitSystem, IsSplitOf}
+use Rattle.tv_finitely.proofs.Soundness.{holds_finitely}
 
 -- ---- under known rows
 -- a refusal of the cover of the start, or of what a step leads into
@@ -98,3 +104,11 @@ first_refusal s Given budget (Rank set barriers) h = absurd h
 first_refusal s Given budget (Solve system e) h = inl h
 first_refusal s Given budget (Cover f) h = absurd h
 first_refusal s Given budget Memory h = tt
+
+-- ---- what visits say
+pub visits_hold : (s : SplitSystem) (p : System) (f : Property) → IsSplitOf p f s → (v : Visits) → AreVisits s v → HoldsFinitely p f
+visits_hold s p f split v h = holds_finitely s (visits_of v) h.shape h.met p f split
+
+pub found_hold : (s : SplitSystem) (p : System) (f : Property) → IsSplitOf p f s → (r : Result Visits VisitFault) → IfOk r (AreVisits s) → IfOk r (λ v. HoldsFinitely p f)
+found_hold s p f split (Ok v) h = visits_hold s p f split v h
+found_hold s p f split (Err e) h = h

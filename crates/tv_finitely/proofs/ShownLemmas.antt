@@ -131,14 +131,14 @@ module _ (r : Ranking) (k : ℕ) where
       let numbers = r.numbers.now in
       let from = get_or numbers w.taken.from 0 in
       let to = get_or numbers w.taken.to 0 in
-      let less = below_of to from (r.never_rises k k_in) other in
+      let lower = below_of to from (r.never_rises k k_in) other in
       let l = (of_case (system_of r) k r.about.now.cases.are_cases k_in).leaves in
       let m = r.located in
       let u = r.below w.taken.from (omega (arith, l, m)) in
       let bounded = r.few_parts in
       by_fall fall 0 (zero_line met ∷ zero_line met ∷ []) (all_ranks r w.taken.from) (all_ranks r w.taken.to)
       (subst (λ z. IsFall 1 ((zeros z ++ pos 1 ∷ []) ∷ (zeros z ++ pos 1 ∷ []) ∷ []) fall) counted h) refl refl
-      (leaving_padded v w from to (rounds_in r.parts.now from) (rounds_in r.parts.now to) r.count less (omega (arith, u, bounded)))
+      (leaving_padded v w from to (rounds_in r.parts.now from) (rounds_in r.parts.now to) r.count lower (omega (arith, u, bounded)))
       (All-cons (All (IsWithin 62)) (zero_line met) (zero_line met ∷ []) (zero_narrow met) (All-cons (All (IsWithin 62)) (zero_line met) [] (zero_narrow met) (All-nil (All (IsWithin 62)))))
     where
       below_of : (a b : ℕ) → a ≤ b → (a ≡ b → ⊥) → a < b
