@@ -1,9 +1,9 @@
 -- Ranks that do not grow over a case, with the multipliers that show it.
-use Rattle.std.proofs.Common.{◌≡◌, ℕ, zero, suc, ◌+◌, ◌-◌, ◌<◌, ◌≤◌, ◌^◌, List, [], ◌∷◌, ◌++◌, length, map, All, Option, None, Some, arith, refl, sym, ap, ◌∙◌, subst, ℤ, pos, ◌≤ℤ◌, unsigned_abs}
+use Rattle.std.proofs.Common.{◌≡◌, ℕ, zero, suc, ◌+◌, ◌-◌, ◌<◌, ◌≤◌, ◌^◌, List, [], ◌∷◌, ◌++◌, length, map, All, Option, None, Some, arith, refl, sym, subst, ℤ, pos, unsigned_abs}
 use Rattle.std.specs.Option.{option_map}
 use Rattle.std.proofs.lemmas.Int.{ints}
 use Rattle.std.proofs.lemmas.List.{map-append}
-use Rattle.std.proofs.lemmas.List.Elements.{All-nil, All-cons, All-push, All-append}
+use Rattle.std.proofs.lemmas.List.Elements.{All-nil, All-cons, All-push}
 use Rattle.tv_linear.specs.Arithmetic.{zeros, constant_row}
 use Rattle.tv_linear.specs.Linear.{Linear, IsWithin}
 use Rattle.tv_linear.specs.Known.{Known, given, less, as_given}
@@ -18,7 +18,7 @@ use Rattle.tv_lexrank.specs.declared.round.Round.{Round}
 use Rattle.tv_lexrank.specs.Closing.{changed}
 use Rattle.tv_lexrank.specs.Known.{way_rows}
 use Rattle.tv_lexrank.specs.Pieces.{zero_ranks, padded_ranks}
-use Rattle.tv_lexrank.specs.Rounds.{lines_of, falls_in, terms_at, ranks_at}
+use Rattle.tv_lexrank.specs.Rounds.{lines_of, falls_in, ranks_at}
 use Rattle.tv_lexrank.specs.Shown.{owed_fall}
 use Rattle.tv_lexrank.specs.Sorting.{StandsIn}
 use Rattle.tv_lexrank.proofs.Chained.{shown_more}

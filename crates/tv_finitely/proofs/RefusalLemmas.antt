@@ -1,5 +1,5 @@
 -- Refusals as they are handed on, and what visits say.
-use Rattle.std.proofs.Common.{◌≡◌, inl, inr, ℕ, ◌<◌, List, [], length, arith, ap, sym, ◌∙◌, subst, ℤ}
+use Rattle.std.proofs.Common.{inl, inr, ℕ, List, length, arith, ap}
 use Rattle.std.specs.Prelude.{Contains, Result, Ok, Err, IfOk}
 use Rattle.std.specs.Result.{IfErr}
 use Rattle.tv_linear.specs.Linear.{Linear}

@@ -1,22 +1,20 @@
 -- What shows each case, by the rounds of all components.
-use Rattle.std.proofs.Common.{◌≡◌, ◌⊎◌, inl, inr, ℕ, zero, suc, ◌+◌, ◌-◌, ◌<◌, ◌≤◌, ◌^◌, List, [], ◌∷◌, ◌++◌, length, map, get_or, All, Option, None, Some, Bool, true, false, if◌then◌else◌, arith, refl, sym, ap, ◌∙◌, subst, ℤ, pos}
+use Rattle.std.proofs.Common.{◌≡◌, ◌⊎◌, inl, inr, ℕ, suc, ◌+◌, ◌-◌, ◌<◌, ◌≤◌, ◌^◌, List, [], ◌∷◌, ◌++◌, length, map, get_or, All, None, Bool, false, if◌then◌else◌, arith, refl, sym, ap, ◌∙◌, subst, ℤ, pos}
 use Rattle.std.proofs.lemmas.List.Elements.{All-nil, All-cons, All-append}
 use Rattle.tv_linear.specs.Arithmetic.{zeros}
 use Rattle.tv_linear.specs.Linear.{Linear, IsWithin}
-use Rattle.tv_linear.specs.Known.{Known, as_given}
+use Rattle.tv_linear.specs.Known.{as_given}
 use Rattle.tv_linear.specs.Covers.{ShownAt}
 use Rattle.tv_linear.specs.declared.region.Piece.{Piece}
-use Rattle.tv_cases.specs.LinearCases.{LinearCase, CaseSystem}
-use Rattle.tv_cert.specs.Obligations.{case_change}
 use Rattle.tv_rank.specs.Given.{lists}
-use Rattle.tv_rank.specs.Ways.{Way, case_at, met_rows, rows_at}
+use Rattle.tv_rank.specs.Ways.{Way, case_at, met_rows}
 use Rattle.tv_lexrank.specs.declared.falling.Fall.{Fall}
 use Rattle.tv_lexrank.specs.declared.round.Round.{Round}
 use Rattle.tv_lexrank.specs.Closing.{changed}
 use Rattle.tv_lexrank.specs.Falling.{AreNarrowLines}
 use Rattle.tv_lexrank.specs.Known.{way_rows}
 use Rattle.tv_lexrank.specs.Pieces.{padded_ranks}
-use Rattle.tv_lexrank.specs.Rounds.{falls_in, lines_of}
+use Rattle.tv_lexrank.specs.Rounds.{falls_in}
 use Rattle.tv_lexrank.specs.Shown.{owed_fall}
 use Rattle.tv_lexrank.specs.Sorting.{StandsIn, LeadsInside, IsNeverTaken, refutation_at}
 use Rattle.tv_lexrank.specs.Rounds.{place_in}
@@ -26,11 +24,10 @@ use Rattle.tv_lexrank.proofs.StepLemmas.{stands_empty}
 use Rattle.tv_lexrank.proofs.ZeroLines.{zero_line}
 use Rattle.tv_finitely.specs.declared.part.Part.{Part}
 use Rattle.tv_finitely.specs.declared.ranking.Ranking.{Ranking}
-use Rattle.tv_finitely.specs.Kept.{visit_fall, kept_rows}
+use Rattle.tv_finitely.specs.Kept.{kept_rows}
 use Rattle.tv_finitely.specs.Lines.{zero_lines, round_lines, IsInsideFall}
 use Rattle.tv_finitely.specs.Parts.{IsPart, rounds_in}
-use Rattle.tv_finitely.specs.Ranked.{split_in, system_of, way_in, all_ranks, ranked_piece, fall_owed, FallsOver}
-use Rattle.tv_finitely.specs.Rounds.{NoneEnters}
+use Rattle.tv_finitely.specs.Ranked.{split_in, system_of, way_in, all_ranks, fall_owed, FallsOver}
 use Rattle.tv_finitely.specs.Walks.{marked_at}
 use Rattle.tv_finitely.proofs.KeptLines.{Keeps, leaving_padded, inside_padded, keeps_padded, zero_narrow, zeros_narrow, round_narrow}
 use Rattle.tv_finitely.proofs.Taken.{Taken, taken_by}

@@ -1,26 +1,21 @@
 -- The covers of the steps, and the proofs that they are.
-use Rattle.std.proofs.Common.{◌≡◌, ℕ, zero, suc, ◌+◌, ◌<◌, ◌≤◌, List, [], ◌∷◌, ◌++◌, length, map, take, Option, None, Some, Bool, arith, refl, sym, ap, ◌∙◌, subst, ℤ}
-use Rattle.std.specs.Prelude.{slice_get}
+use Rattle.std.proofs.Common.{◌≡◌, ℕ, suc, ◌+◌, ◌<◌, ◌≤◌, List, [], ◌∷◌, ◌++◌, length, map, take, Option, None, Some, Bool, arith, refl, sym, ap, ◌∙◌, subst, ℤ}
 use Rattle.std.specs.Option.{option_map}
 use Rattle.std.specs.List.{AllZip, flat_map}
 use Rattle.std.proofs.lemmas.List.{append-nil, append_assoc}
 use Rattle.std.proofs.lemmas.Grind.{flat_map-append}
 use Rattle.std.proofs.Math.Seq.{take-length}
-use Rattle.tv_linear.specs.Linear.{Linear, columns}
+use Rattle.tv_linear.specs.Linear.{Linear}
 use Rattle.tv_linear.specs.Known.{Known}
 use Rattle.tv_linear.specs.Covers.{ShownAt, IsMetCover}
-use Rattle.tv_linear.specs.Depth.{splits}
 use Rattle.tv_linear.specs.declared.cover.CoverTree.{CoverTree}
 use Rattle.tv_linear.specs.declared.cover.CoverTree as cover
 use Rattle.tv_linear.specs.declared.region.Piece.{Piece}
 use Rattle.tv_linear.proofs.ListLaws.{zip_both, take_more}
-use Rattle.tv_farkas.specs.Trees.{TreeRows}
-use Rattle.tv_cases.specs.LinearCases.{LinearCase, from_of}
-use Rattle.tv_cert.specs.declared.node.Marked.{Marked}
+use Rattle.tv_cases.specs.LinearCases.{LinearCase}
 use Rattle.tv_cert.specs.declared.node.Proof.{Proof}
 use Rattle.tv_cert.specs.declared.node.Proof.TheVariants.{Covered}
 use Rattle.tv_cert.specs.Obligations.{Obligation, case_change}
-use Rattle.tv_cert.specs.Pieces.{place_of}
 use Rattle.tv_cert.specs.Targets.{target_rows}
 use Rattle.tv_rank.specs.Given.{lists}
 use Rattle.tv_rank.specs.Ways.{Way, case_at, rows_at}

@@ -1,5 +1,5 @@
 -- The visits by the rounds of all components.
-use Rattle.std.proofs.Common.{◌≡◌, ℕ, zero, suc, ◌<◌, ◌≤◌, List, [], ◌∷◌, ◌++◌, Some, arith, refl, sym, ap, ◌∙◌, subst}
+use Rattle.std.proofs.Common.{◌≡◌, ℕ, zero, suc, List, [], ◌∷◌, Some, arith, sym, ap, ◌∙◌, subst}
 use Rattle.std.specs.List.{AllZip}
 use Rattle.std.proofs.lemmas.List.{append-nil}
 use Rattle.tv_linear.specs.Known.{Known, given, as_given}
@@ -22,7 +22,7 @@ use Rattle.tv_lexrank.proofs.OfferLemmas.{met_shape}
 use Rattle.tv_finitely.specs.declared.ranking.Ranking.{Ranking}
 use Rattle.tv_finitely.specs.Obligations.{VisitParts, steps_owed, visit_entries}
 use Rattle.tv_finitely.specs.Proofs.{AreProofsBelow}
-use Rattle.tv_finitely.specs.Ranked.{split_in, system_of, AreRanked, ranked_piece, all_pieces, IsProvedBy}
+use Rattle.tv_finitely.specs.Ranked.{split_in, system_of, AreRanked, all_pieces, IsProvedBy}
 use Rattle.tv_finitely.specs.Shapes.{VisitShape}
 use Rattle.tv_finitely.proofs.PieceLemmas.{first_piece, pieces_shaped}
 

@@ -1,5 +1,5 @@
 -- The components of the location graph, each with its rounds.
-use Rattle.std.specs.Prelude.{◌≡◌, ℕ, suc, ◌<◌, ◌≤◌, List, [], ◌∷◌, length, map, get_or, ℤ, Bool}
+use Rattle.std.specs.Prelude.{◌≡◌, ℕ, suc, ◌≤◌, List, [], ◌∷◌, length, map, get_or, ℤ, Bool}
 use Rattle.tv_linear.specs.declared.region.Piece.{Piece}
 use Rattle.tv_simplex.specs.declared.fault.SolveFault.{SolveFault}
 use Rattle.tv_cases.specs.LinearCases.{CaseSystem}

@@ -1,6 +1,6 @@
 use Rattle.std.proofs.Common.{◌≡◌, length, arith}
 use Rattle.tv_finitely.specs.Ranked.{system_of}
-use Rattle.tv_finitely.proofs.StepCovers.{none_yet, steps_more, all_steps}
+use Rattle.tv_finitely.proofs.StepCovers.{steps_more, all_steps}
 use Rattle.tv_finitely.proofs.offered.push_steps.Goals as goal
 
 pub cases-preserved : goal.cases-preserved

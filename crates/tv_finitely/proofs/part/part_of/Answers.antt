@@ -3,9 +3,9 @@ use Rattle.tv_rank.specs.Sets.{PointsOf}
 use Rattle.tv_cases.specs.Systems.{cases_of}
 use Rattle.tv_rank.specs.Given.{lists}
 use Rattle.tv_lexrank.proofs.SortLemmas.{few_below}
-use Rattle.tv_finitely.specs.Rounds.{AreRounds, AreEnough, AreStuck, RefusesRounds}
+use Rattle.tv_finitely.specs.Rounds.{AreRounds, AreEnough}
 use Rattle.tv_finitely.proofs.PartLemmas.{stuck_left}
-use Rattle.tv_finitely.proofs.RoundLemmas.{rounds_refused, sorting_refused}
+use Rattle.tv_finitely.proofs.RoundLemmas.{sorting_refused}
 use Rattle.tv_finitely.proofs.part.part_of.Goals as goal
 
 pub rounds_over-requires-clause-points : goal.rounds_over-requires-clause-points

@@ -1,8 +1,6 @@
 use Rattle.std.proofs.Common.{◌≡◌, ◌∙◌, All, subst}
 use Rattle.tv_linear.specs.Linear.{columns}
 use Rattle.tv_lexrank.specs.Known.{piece_rows}
-use Rattle.tv_finitely.specs.Splits.{split_of}
-use Rattle.tv_finitely.proofs.RefusalLemmas.{never_open, never_uncovered}
 use Rattle.tv_finitely.proofs.proving.first_visits.Goals as goal
 
 pub visits_under-requires-clause-known : goal.visits_under-requires-clause-known

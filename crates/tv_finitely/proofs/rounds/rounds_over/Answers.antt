@@ -2,8 +2,8 @@ use Rattle.std.proofs.Common.{◌∙◌, sym, ap, subst, length, arith, Bool}
 use Rattle.std.specs.Prelude.{MatchBool}
 use Rattle.tv_rank.specs.Sets.{PointsOf}
 use Rattle.tv_cases.specs.Systems.{cases_of}
-use Rattle.tv_rank.specs.Given.{AreNumbered, lists}
-use Rattle.tv_lexrank.specs.Greedy.{IsTurn, Lead, none, without, RefusesTurn, AreBarriers}
+use Rattle.tv_rank.specs.Given.{AreNumbered}
+use Rattle.tv_lexrank.specs.Greedy.{IsTurn, Lead, none, without, RefusesTurn}
 use Rattle.tv_lexrank.proofs.Turns.{one_more}
 use Rattle.tv_lexrank.proofs.Removing.{length-without, numbered_without, points_without}
 use Rattle.tv_cases.proofs.AmountLemmas.{one_more as one_longer}

@@ -1,4 +1,4 @@
-use Rattle.std.proofs.Common.{◌≡◌, ◌∙◌, ◌-◌, ◌++◌, ◌∷◌, ap, arith, refl, length}
+use Rattle.std.proofs.Common.{◌∙◌, ◌-◌, ◌++◌, ◌∷◌, ap, arith, refl, length}
 use Rattle.tv_lexrank.specs.Rounds.{lines_of}
 use Rattle.tv_finitely.specs.Lines.{zero_lines}
 use Rattle.tv_finitely.proofs.shown.inside_fall.Goals as goal

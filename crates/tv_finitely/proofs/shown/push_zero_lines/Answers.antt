@@ -1,4 +1,4 @@
-use Rattle.std.proofs.Common.{◌≡◌, ◌∙◌, ◌+◌, ◌++◌, ◌∷◌, [], suc, ap, sym, arith}
+use Rattle.std.proofs.Common.{◌≡◌, ◌∙◌, ◌+◌, ◌++◌, ◌∷◌, [], suc, ap, arith}
 use Rattle.std.proofs.lemmas.List.{map-append, append_assoc}
 use Rattle.tv_rank.specs.Given.{lists}
 use Rattle.tv_lexrank.proofs.ZeroLines.{zero_line}

@@ -1,6 +1,5 @@
 use Rattle.tv_finitely.specs.Splits.{split_of}
 use Rattle.tv_finitely.proofs.PartLemmas.{parts_few}
-use Rattle.tv_finitely.proofs.RefusalLemmas.{begun_shown, closed_shown}
 use Rattle.tv_finitely.proofs.under.ranked_visits.Goals as goal
 
 pub rank_count-count-requires : goal.rank_count-count-requires

@@ -1,5 +1,4 @@
-use Rattle.std.proofs.Common.{◌∙◌, sym, subst}
-use Rattle.tv_finitely.specs.Ranked.{split_in}
+use Rattle.std.proofs.Common.{◌∙◌}
 use Rattle.tv_finitely.proofs.VisitLemmas.{visits_shaped, visits_met}
 use Rattle.tv_finitely.proofs.under.visits_by.Goals as goal
 
