@@ -17,3 +17,5 @@ mod programs;
 mod shown;
 #[cfg(test)]
 mod splits;
+#[cfg(test)]
+mod visits;

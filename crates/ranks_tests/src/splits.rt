@@ -9,12 +9,12 @@ use tv_finitely::{Split, SplitFault, split};
 use tv_formula::termination;
 use tv_formula_reader::read_formula;
 
-const COUNTER: &str = "START: 0; FROM: 0; x := x + 1; TO: 0;";
+pub(crate) const COUNTER: &str = "START: 0; FROM: 0; x := x + 1; TO: 0;";
 
 const TWO_PLACES: &str = "START: 0; FROM: 0; TO: 1; FROM: 1; x := x + 1; TO: 0;";
 
 /// The program split by the property, both as texts.
-fn split_by(alloc: Global, program: &str, property: &str) -> Result<Split, Fail> {
+pub(crate) fn split_by(alloc: Global, program: &str, property: &str) -> Result<Split, Fail> {
     if property.len() > 65536 {
         return Err(Fail::from("a long property"));
     }

@@ -1,8 +1,7 @@
 -- What a piece owes over one case, and what is offered for it.
-use Rattle.std.proofs.Common.{◌≡◌, ◌↔◌, ℕ, zero, suc, ◌+◌, ◌<◌, ◌≤◌, List, [], ◌∷◌, ◌++◌, length, drop, slice_get, Option, None, Some, Result, Ok, Err, Bool, true, false, IsTrue, arith, refl, sym, ap, ◌∙◌, subst, ◌==◌, cond}
+use Rattle.std.proofs.Common.{◌≡◌, ◌↔◌, ℕ, ◌+◌, ◌<◌, ◌≤◌, List, [], ◌∷◌, ◌++◌, length, drop, slice_get, Option, None, Some, Result, Ok, Err, Bool, true, false, IsTrue, arith, refl, sym, ap, ◌∙◌, subst, ◌==◌, cond}
 use Rattle.std.specs.Prelude.{OnOk, MatchResult}
 use Rattle.std.proofs.lemmas.Bool.{eq-eqb, eqb-true}
-use Rattle.std.proofs.lemmas.List.{append-nil}
 use Rattle.tv_linear.specs.Linear.{Linear}
 use Rattle.tv_linear.specs.Known.{Known, given, as_given}
 use Rattle.tv_linear.specs.Covers.{IsMetCover}

@@ -1,5 +1,5 @@
 -- What a met cover of a step shows of the states before and after it.
-use Rattle.std.proofs.Common.{◌≡◌, ℕ, suc, ◌+◌, ◌≤◌, List, [], ◌∷◌, ◌++◌, length, All, map, Option, None, Some, Bool, true, false, arith, refl, subst, sym, ap, ◌∙◌, ℤ, pos, ◌+ℤ◌, ◌*ℤ◌, ◌≤ℤ◌, slice_get, length-append}
+use Rattle.std.proofs.Common.{◌≡◌, ℕ, suc, ◌+◌, ◌≤◌, List, [], ◌∷◌, ◌++◌, length, All, map, Option, None, Some, arith, refl, subst, sym, ap, ◌∙◌, ℤ, pos, ◌+ℤ◌, ◌*ℤ◌, slice_get, length-append}
 use Rattle.std.specs.Prelude.{Contains}
 use Rattle.std.specs.Option.{option_map}
 use Rattle.std.proofs.lemmas.List.{length-map, get_or_past}
@@ -16,7 +16,7 @@ use Rattle.tv_linear.proofs.PlainLists.{length-table}
 use Rattle.tv_program.specs.Steps.{State}
 use Rattle.tv_cases.specs.LinearCases.{LinearCase, CaseDoes}
 use Rattle.tv_cert.specs.declared.node.Marked.{Marked}
-use Rattle.tv_cert.specs.Pieces.{place_of, rows_of, ranks_of, goes, InMarked, InPieces, pieces_at}
+use Rattle.tv_cert.specs.Pieces.{place_of, rows_of, ranks_of, InMarked, pieces_at}
 use Rattle.tv_cert.specs.Targets.{owed_into, target_rows}
 use Rattle.tv_cert.specs.Obligations.{case_change}
 use Rattle.tv_cert.specs.Fits.{PieceFits}

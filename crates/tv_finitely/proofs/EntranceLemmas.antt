@@ -1,5 +1,5 @@
 -- Rows that show that no rank grows, as they are lent one by one.
-use Rattle.std.proofs.Common.{◌≡◌, ◌↔◌, ℕ, zero, suc, ◌+◌, ◌<◌, ◌≤◌, ℤ, pos, Bool, true, false, IsTrue, List, [], ◌∷◌, ◌++◌, length, map, get_or, slice_get, Option, None, Some, refl, sym, ap, ◌∙◌, subst, arith, length-append}
+use Rattle.std.proofs.Common.{◌≡◌, ℕ, zero, suc, ◌+◌, ◌<◌, pos, Bool, true, false, List, [], ◌∷◌, ◌++◌, length, map, get_or, slice_get, Option, None, Some, refl, sym, ap, ◌∙◌, arith, length-append}
 use Rattle.std.specs.Borrow.{Bor}
 use Rattle.std.specs.Option.{option_map}
 use Rattle.std.proofs.lemmas.List.{length-map}
@@ -8,7 +8,7 @@ use Rattle.tv_linear.specs.Known.{Known, given, less, as_given}
 use Rattle.tv_linear.specs.Views.{rows_seen}
 use Rattle.tv_cert.specs.declared.node.Marked.{Marked}
 use Rattle.tv_cert.specs.Pieces.{rows_of, ranks_of, pieces_at}
-use Rattle.tv_cert.specs.Targets.{owed_into, target_rows, no_fall, fall_from}
+use Rattle.tv_cert.specs.Targets.{owed_into, target_rows}
 use Rattle.tv_cert.specs.TargetViews.{falls_past, owed_at}
 use Rattle.tv_cert.specs.declared.targets.Targets.TheVariants as targets
 use Rattle.tv_cert.specs.Shapes.{owed_count}

@@ -13,3 +13,13 @@ mod Doubled
 mod Marked
 mod SplitSteps
 mod Answered
+mod Taken
+mod KeptLines
+mod RoundLemmas
+mod PartLemmas
+mod ShownLemmas
+mod PieceLemmas
+mod StepCovers
+mod VisitLemmas
+mod KnownLemmas
+mod RefusalLemmas

@@ -1,5 +1,5 @@
 -- What is offered for an obligation, where all of a list are met.
-use Rattle.std.proofs.Common.{◌≡◌, ℕ, zero, suc, List, [], ◌∷◌, ◌++◌, Option, None, Some, arith, refl, sym, ap, ◌∙◌, subst, length, drop, append_assoc}
+use Rattle.std.proofs.Common.{◌≡◌, ℕ, zero, suc, List, [], ◌∷◌, ◌++◌, Option, None, Some, arith, refl, ap, ◌∙◌, length, drop}
 use Rattle.std.specs.Prelude.{Contains}
 use Rattle.std.specs.List.{flat_map}
 use Rattle.std.proofs.lemmas.List.Elements.{Contains-append_left, Contains-append_right}
@@ -9,7 +9,7 @@ use Rattle.tv_linear.specs.Covers.{IsMetCover}
 use Rattle.tv_linear.proofs.ListLaws.{drop_past}
 use Rattle.tv_cert.specs.declared.node.Proof.{Proof}
 use Rattle.tv_cert.specs.declared.node.Proof.TheVariants.{Covered, Chosen}
-use Rattle.tv_cert.specs.Obligations.{Obligation, Owed, a_cover, OwedMet, Entry, AllMet, paired}
+use Rattle.tv_cert.specs.Obligations.{Obligation, a_cover, OwedMet, Entry, AllMet, paired}
 
 pub Contains-flat_map : {A B : Type 0} (f : A → List B) (xs : List A) (x : A) (y : B) → Contains xs x → Contains (f x) y → Contains (flat_map f xs) y
 Contains-flat_map f [] x y c d = absurd (omega arith)

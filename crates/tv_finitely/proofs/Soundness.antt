@@ -1,10 +1,10 @@
 -- Where the obligations of visits are met, the property holds only finitely often on every run.
-use Rattle.std.proofs.Common.{◌≡◌, ℕ, List, [], ◌∷◌, ◌++◌, length, All, arith, refl, sym, ap, ◌∙◌, subst, ℤ}
-use Rattle.std.specs.Prelude.{Contains, false}
-use Rattle.tv_linear.specs.Known.{as_given, given}
+use Rattle.std.proofs.Common.{◌≡◌, ℕ, List, [], ◌∷◌, length, All, refl, sym, ◌∙◌, ℤ}
+use Rattle.std.specs.Prelude.{false}
+use Rattle.tv_linear.specs.Known.{given}
 use Rattle.tv_linear.specs.Falls.{Falls}
 use Rattle.tv_program.specs.Runs.{IsRun, last_of, Ends, all_end}
-use Rattle.tv_program.specs.Steps.{State, Steps, IsInitial}
+use Rattle.tv_program.specs.Steps.{State, Steps}
 use Rattle.tv_program.specs.Systems.{System}
 use Rattle.tv_formula.specs.Properties.{Property}
 use Rattle.tv_meaning.specs.Meaning.{Holds}
@@ -14,7 +14,7 @@ use Rattle.tv_cert.specs.declared.node.Verdict.TheVariants.{Proved}
 use Rattle.tv_cert.specs.AboutSystem.{about_of}
 use Rattle.tv_cert.specs.Nodes.{root_entry}
 use Rattle.tv_cert.specs.Obligations.{AllMet, IsMetEntry, paired}
-use Rattle.tv_cert.specs.Pieces.{InMarked, rows_of}
+use Rattle.tv_cert.specs.Pieces.{rows_of}
 use Rattle.tv_cert.specs.Shapes.{PieceShape}
 use Rattle.tv_cert.specs.Targets.{no_fall}
 use Rattle.tv_linear.proofs.KnownLemmas.{met-as_given}
@@ -28,7 +28,7 @@ use Rattle.tv_finitely.proofs.RankLemmas.{falls_end}
 use Rattle.tv_finitely.proofs.EnterLemmas.{entered}
 use Rattle.tv_finitely.proofs.Moving.{moves_then_falls}
 use Rattle.tv_finitely.proofs.Paired.{AllMet-left, AllMet-right}
-use Rattle.tv_finitely.proofs.Steps.{Placed, ranks_there, Stepped, stepped}
+use Rattle.tv_finitely.proofs.Steps.{Placed, ranks_there, stepped}
 
 module _ (s : SplitSystem) (m : ℕ) (ps : List Marked) (each : All (PieceShape s.system m false) ps) (proofs : List Proof) (met : AllMet (paired (steps_owed s ps) proofs)) (p : System) (f : Property) (split : IsSplitOf p f s) where
   abbrev n : ℕ

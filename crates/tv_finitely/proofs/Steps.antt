@@ -1,31 +1,30 @@
 -- A step of a program that is split, from a state in a piece of visits whose obligations are met.
-use Rattle.std.proofs.Common.{◌≡◌, ◌⊎◌, inl, inr, ℕ, zero, suc, ◌+◌, ◌≤◌, List, [], ◌∷◌, ◌++◌, map, length, Option, None, Some, Bool, true, false, arith, refl, sym, ap, ◌∙◌, subst, ℤ, ◌==◌, cond}
+use Rattle.std.proofs.Common.{◌≡◌, ◌⊎◌, inl, inr, ℕ, zero, suc, ◌+◌, ◌≤◌, List, [], ◌∷◌, ◌++◌, map, length, Option, Some, Bool, true, false, arith, refl, sym, ◌∙◌, subst, ℤ, cond}
 use Rattle.std.specs.Prelude.{Contains, All}
-use Rattle.std.specs.List.{flat_map}
 use Rattle.std.proofs.lemmas.Bool.{eq-eqb}
 use Rattle.std.proofs.lemmas.List.{length-map}
 use Rattle.std.proofs.lemmas.List.Elements.{All-contains}
 use Rattle.tv_linear.specs.Linear.{Linear, columns}
 use Rattle.tv_linear.specs.Known.{Known, given, known_value, as_given, IsKnownMet}
-use Rattle.tv_linear.specs.Falls.{Falls, fall_rows}
+use Rattle.tv_linear.specs.Falls.{Falls}
 use Rattle.tv_linear.proofs.FallLemmas.{falls-shown}
 use Rattle.tv_program.specs.Steps.{State, Steps}
 use Rattle.tv_program.specs.Systems.{System}
 use Rattle.tv_formula.specs.Properties.{Property}
 use Rattle.tv_meaning.specs.Meaning.{Holds}
-use Rattle.tv_cases.specs.LinearCases.{LinearCase, CaseSystem, CaseDoes, from_of}
+use Rattle.tv_cases.specs.LinearCases.{LinearCase, from_of}
 use Rattle.tv_cases.proofs.ContainsLemmas.{Contains-here}
 use Rattle.tv_cert.specs.declared.node.Marked.{Marked}
 use Rattle.tv_cert.specs.declared.node.Proof.{Proof}
-use Rattle.tv_cert.specs.Pieces.{place_of, rows_of, ranks_of, goes, InMarked}
+use Rattle.tv_cert.specs.Pieces.{place_of, rows_of, ranks_of, InMarked}
 use Rattle.tv_cert.specs.Fits.{PieceFits}
 use Rattle.tv_cert.specs.Targets.{owed_into, fall_from}
-use Rattle.tv_cert.specs.Obligations.{Obligation, AllMet, case_change, paired}
+use Rattle.tv_cert.specs.Obligations.{AllMet, case_change, paired}
 use Rattle.tv_cert.specs.Shapes.{PieceShape}
-use Rattle.tv_finitely.specs.Kept.{NoneGrows, kept_rows, visit_fall}
-use Rattle.tv_finitely.specs.Obligations.{VisitParts, step_owed, case_owes, piece_owes, steps_owed}
+use Rattle.tv_finitely.specs.Kept.{visit_fall}
+use Rattle.tv_finitely.specs.Obligations.{step_owed, case_owes, piece_owes, steps_owed}
 use Rattle.tv_finitely.specs.Splits.{SplitSystem, marked_cases, StepsBy, IsSplitOf}
-use Rattle.tv_finitely.proofs.EnterLemmas.{StepCovered, Entered, step_entered, inside_after, ranks_before, ranks_now, wide_after}
+use Rattle.tv_finitely.proofs.EnterLemmas.{StepCovered, step_entered, inside_after, ranks_before, ranks_now, wide_after}
 use Rattle.tv_finitely.proofs.Moving.{Moves, kept-shown}
 use Rattle.tv_finitely.proofs.Paired.{Contains-flat_map, paired_some, cover_shown}
 

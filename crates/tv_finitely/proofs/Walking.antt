@@ -1,5 +1,5 @@
 -- Lists of obligations that are gone over item by item: what is settled, and what has its shape.
-use Rattle.std.proofs.Common.{◌≡◌, ◌↔◌, ℕ, zero, suc, ◌+◌, ◌≤◌, List, [], ◌∷◌, ◌++◌, length, drop, take, slice_get, Option, None, Some, Result, Ok, Err, arith, refl, sym, ap, ◌∙◌, subst, append_assoc, length-append}
+use Rattle.std.proofs.Common.{◌≡◌, ◌↔◌, ℕ, zero, suc, ◌+◌, ◌≤◌, List, [], ◌∷◌, ◌++◌, length, drop, take, slice_get, None, Some, Ok, arith, refl, sym, ap, ◌∙◌, subst, append_assoc, length-append}
 use Rattle.std.specs.List.{flat_map}
 use Rattle.std.proofs.lemmas.List.{append-nil, take-append-drop}
 use Rattle.std.proofs.lemmas.Grind.{flat_map-append}
@@ -8,7 +8,7 @@ use Rattle.tv_linear.proofs.ListLaws.{drop_past, take_more}
 use Rattle.tv_cert.specs.declared.failing.Failing.{Failing}
 use Rattle.tv_cert.specs.declared.node.Proof.{Proof}
 use Rattle.tv_cert.specs.FirstFailing.{IsFirstFailing}
-use Rattle.tv_cert.specs.Obligations.{Obligation, Entry, AllMet, paired}
+use Rattle.tv_cert.specs.Obligations.{Obligation, AllMet, paired}
 use Rattle.tv_cert.proofs.FailingLemmas.{failing_left, failing_right, all_join}
 use Rattle.tv_cert.proofs.NodeLemmas.{length-paired}
 use Rattle.tv_finitely.specs.Walks.{Offered, IsShaped, IsSettledFrom}

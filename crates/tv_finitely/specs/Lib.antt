@@ -6,3 +6,10 @@ pub mod Obligations
 pub mod Shapes
 pub mod Entrances
 pub mod Walks
+pub mod Rounds
+pub mod Parts
+pub mod Lines
+pub mod Ranked
+pub mod Proofs
+pub mod Found
+pub mod Refusals

@@ -1,5 +1,5 @@
 -- The shape of visits, whether or not their obligations are met.
-use Rattle.std.specs.Prelude.{◌≡◌, List, [], All, false}
+use Rattle.std.specs.Prelude.{◌≡◌, [], All, false}
 use Rattle.std.specs.List.{AllZip}
 use Rattle.tv_linear.specs.declared.cover.CoverTree.{CoverTree}
 use Rattle.tv_linear.specs.Known.{given}

@@ -209,7 +209,8 @@ pub fn entrance_over<'a>(
 
 /// The pieces at the start, where no piece is left.
 pub fn entrance_at_start<'a>(about: &Split, pieces: &'a Pieces) -> Entrance<'a>
-    ensures { (change : Linear → Known) → entrance_owes change result ≡ owed_into pieces.now (split_of about.now).system.start change no_fall }
+    ensures { (change : Linear → Known) →
+        entrance_owes change result ≡ owed_into pieces.now (split_of about.now).system.start change no_fall }
 {
     Entrance {
         left: None,

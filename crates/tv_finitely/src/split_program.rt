@@ -10,9 +10,9 @@ use tv_cases::{Case, CaseFault, Cases};
 /// holds, or leads to one where it does not.
 #[derive(Drop)]
 pub struct Split {
-    cases: Cases,
+    pub(crate) cases: Cases,
     /// Whether each case enters.
-    entering: Vec<bool>,
+    pub(crate) entering: Vec<bool>,
     pub ghost one_each: { length entering.items ≡ length (cases_of cases).cases },
 }
 

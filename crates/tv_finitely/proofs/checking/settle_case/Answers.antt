@@ -1,10 +1,6 @@
-use Rattle.std.proofs.Common.{length, arith, refl, sym, subst}
+use Rattle.std.proofs.Common.{length, arith, refl}
 use Rattle.std.proofs.lemmas.Option.{slice_get_read}
-use Rattle.tv_cert.specs.FirstFailing.{IsFirstFailing}
-use Rattle.tv_finitely.specs.Obligations.{case_owes}
 use Rattle.tv_finitely.specs.Splits.{split_of}
-use Rattle.tv_finitely.specs.Walks.{marked_at, IsSettledFrom}
-use Rattle.std.proofs.Common.{Err}
 use Rattle.tv_finitely.proofs.CaseLemmas.{settled_nothing, settled_missing, settled_met, settled_unmet}
 use Rattle.tv_finitely.proofs.checking.settle_case.Goals as goal
 

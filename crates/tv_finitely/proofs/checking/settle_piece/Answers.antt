@@ -1,4 +1,4 @@
-use Rattle.std.proofs.Common.{length, arith}
+use Rattle.std.proofs.Common.{arith}
 use Rattle.tv_finitely.specs.Obligations.{case_owes}
 use Rattle.tv_finitely.specs.Splits.{split_of, marked_cases}
 use Rattle.tv_finitely.specs.Walks.{marked_at}

@@ -1,9 +1,7 @@
 use Rattle.std.proofs.Common.{◌≡◌, [], sym, ap, ◌∙◌, subst, refl}
 use Rattle.tv_linear.specs.Known.{given}
 use Rattle.tv_linear.specs.Covers.{IsMetCover}
-use Rattle.tv_cert.specs.Targets.{owed_into, no_fall}
 use Rattle.tv_finitely.specs.Entrances.{entrance_owes}
-use Rattle.tv_finitely.specs.Splits.{split_of}
 use Rattle.tv_finitely.proofs.checking.settle_root.Goals as goal
 
 pub returns-then-all_are_covered : goal.returns-then-all_are_covered

@@ -1,6 +1,5 @@
-use Rattle.std.proofs.Common.{◌≡◌, ◌++◌, length, map, Some, sym, ap, ◌∙◌}
+use Rattle.std.proofs.Common.{◌++◌, length, map, Some, sym, ap, ◌∙◌}
 use Rattle.std.specs.Option.{option_map}
-use Rattle.tv_linear.specs.Known.{Known}
 use Rattle.tv_cert.specs.Pieces.{ranks_of, rows_of}
 use Rattle.tv_finitely.specs.Entrances.{kept_list}
 use Rattle.tv_finitely.proofs.EntranceLemmas.{kept_there, not_kept}

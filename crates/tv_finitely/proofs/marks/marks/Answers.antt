@@ -1,4 +1,4 @@
-use Rattle.std.proofs.Common.{◌≤◌, ◌∙◌, ◌++◌, length, map, true, ap, sym, subst}
+use Rattle.std.proofs.Common.{◌≤◌, ◌∙◌, ◌++◌, length, map, true, ap, sym}
 use Rattle.std.proofs.lemmas.List.{drop_all, append-nil}
 use Rattle.tv_program.specs.Programs.{system_of}
 use Rattle.tv_program.specs.Views.{instruction, transitions}

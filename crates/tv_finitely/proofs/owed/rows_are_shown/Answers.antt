@@ -3,7 +3,6 @@ use Rattle.std.proofs.lemmas.List.{length-map}
 use Rattle.std.proofs.lemmas.Option.{slice_get_read}
 use Rattle.tv_refute.specs.Frames.{known_at}
 use Rattle.tv_refute.proofs.ShownLemmas.{Shown_many, numbers}
-use Rattle.tv_cert.specs.Entering.{ShowsRow}
 use Rattle.tv_finitely.specs.Entrances.{rows_listed}
 use Rattle.tv_check.proofs.ShownLemmas.{Left, Left_next, Left_stops}
 use Rattle.tv_finitely.proofs.owed.rows_are_shown.Goals as goal

@@ -1,6 +1,5 @@
-use Rattle.std.proofs.Common.{◌≡◌, ◌≤◌, ◌+◌, ◌++◌, length, refl, sym, ap, subst, ◌∙◌, arith, length-append}
+use Rattle.std.proofs.Common.{◌≡◌, ◌+◌, ◌++◌, length, refl, sym, ap, ◌∙◌, arith, length-append}
 use Rattle.std.proofs.lemmas.List.{length-map}
-use Rattle.tv_linear.specs.Depth.{splits}
 use Rattle.tv_linear.specs.Known.{as_given, given}
 use Rattle.tv_cases.specs.Views.{case_view}
 use Rattle.tv_cert.specs.Pieces.{rows_of}

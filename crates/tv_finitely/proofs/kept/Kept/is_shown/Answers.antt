@@ -1,4 +1,4 @@
-use Rattle.std.proofs.Common.{◌-◌, ◌++◌, arith, length, map, pos, sym, ◌∙◌, slice_get}
+use Rattle.std.proofs.Common.{◌-◌, ◌++◌, arith, map, pos, ◌∙◌}
 use Rattle.std.proofs.lemmas.List.{length-map}
 use Rattle.tv_linear.specs.Known.{given, less}
 use Rattle.tv_linear.specs.Views.{row_seen, rows_seen}
