@@ -15,8 +15,17 @@ const TOWARDS: &str =
 
 /// The programs whose runs all end.
 const ENDING: &[&str] = &[
-    TURNING, SWINGING, SIGNS, SUMMED, FLAGGED, UP_AND_DOWN, DIVISOR, LEFT_OVER, FALLING,
-    TURNING_SUM, TOWARDS,
+    TURNING,
+    SWINGING,
+    SIGNS,
+    SUMMED,
+    FLAGGED,
+    UP_AND_DOWN,
+    DIVISOR,
+    LEFT_OVER,
+    FALLING,
+    TURNING_SUM,
+    TOWARDS,
 ];
 
 /// Programs of which the search cannot tell whether their runs end, or some of whose runs do not.
@@ -99,7 +108,11 @@ const FALLING_DRAWN: &str =
 const ROWS: &[(&str, &str, Outcome)] = &[
     (FALLING_ON, "[AF](x <= 0)", Outcome::Proved),
     (FALLING_ON, "[AF](at(1))", Outcome::Proved),
-    (FALLING_ON, "[AF](at(1) && x <= 0) || false", Outcome::Proved),
+    (
+        FALLING_ON,
+        "[AF](at(1) && x <= 0) || false",
+        Outcome::Proved,
+    ),
     (FALLING_ON, "[AF](!at(0) || x < 1) && true", Outcome::Proved),
     (FALLING_ON, "[AF](x <= 0 || [AX](false))", Outcome::Proved),
     (FALLING_ON, "[AF]([AX](false) && true)", Outcome::Proved),

@@ -9,7 +9,8 @@ pub(crate) const TURNING: &str =
 pub(crate) const SWINGING: &str = "START: 0; FROM: 0; assume(x >= 0); x := -2*x + 10; TO: 0;";
 
 /// One number falls, and the other turns its sign.
-pub(crate) const SIGNS: &str = "START: 0; FROM: 0; assume(x + y > 0); x := x - 1; y := -2*y; TO: 0;";
+pub(crate) const SIGNS: &str =
+    "START: 0; FROM: 0; assume(x + y > 0); x := x - 1; y := -2*y; TO: 0;";
 
 /// No step is taken where x1 is at most 0, which the sum of the guards says.
 pub(crate) const SUMMED: &str =

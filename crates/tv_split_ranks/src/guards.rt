@@ -5,9 +5,7 @@ use crate::effect::{Effect, Steps};
 use crate::lists::outside;
 use std::alloc::{AllocError, Global};
 use tv_linear::{Row, copies};
-use tv_walks::{
-    all_put_in, coefficient_at, is_without_draws, less, number_row, put_in, unit_rows,
-};
+use tv_walks::{all_put_in, coefficient_at, is_without_draws, less, number_row, put_in, unit_rows};
 
 /// A way to take a case.
 #[derive(Drop)]
@@ -46,11 +44,7 @@ fn term_at_bound(
 }
 
 /// The term for the draw of this column: the bound that the first of the guards sets it that has no later draw, or 0.
-fn term_for(
-    steps: &Steps,
-    effect: &Effect,
-    column: usize,
-) -> Result<Option<Row>, AllocError> {
+fn term_for(steps: &Steps, effect: &Effect, column: usize) -> Result<Option<Row>, AllocError> {
     for guard in &effect.guards {
         let number = coefficient_at(guard, column);
         if (number == 1 || number == -1)

@@ -106,9 +106,7 @@ pub(crate) fn lists_where(
     match aim {
         Aim::Rows(lists) => plain_lists(steps, lists, holds, spending),
         Aim::Here(own) => Ok(Some(truth_lists(steps.alloc, (*own == location) == holds)?)),
-        Aim::Elsewhere(own) => {
-            Ok(Some(truth_lists(steps.alloc, (*own != location) == holds)?))
-        }
+        Aim::Elsewhere(own) => { Ok(Some(truth_lists(steps.alloc, (*own != location) == holds)?)) }
         Aim::EachOf(parts) => {
             if holds {
                 common_lists(steps, parts, location, holds, spending)

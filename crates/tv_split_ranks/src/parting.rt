@@ -19,7 +19,10 @@ struct Parts {
 impl Parts {
     /// Whether the place lies inside of one that stands from this place on.
     fn has_around(&self, first: usize, place: &Place) -> bool {
-        self.places.iter().skip(first).any(|other| all_stand_in(&place.rows, &other.rows))
+        self.places
+            .iter()
+            .skip(first)
+            .any(|other| all_stand_in(&place.rows, &other.rows))
     }
 
     /// Puts the parts of the place where a case can be taken at the end.
