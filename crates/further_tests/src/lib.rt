@@ -2,6 +2,8 @@
 #![tactic(auto)]
 
 #[cfg(test)]
+mod comings;
+#[cfg(test)]
 mod disproofs;
 #[cfg(test)]
 mod endings;

@@ -1,353 +1,256 @@
 // The certificate of a partition whose ranks are all found.
 
+use crate::area::{Area, number_among, push_areas};
 use crate::budget::Spending;
-use crate::effect::{Effect, Steps};
+use crate::choosing::some_step;
+use crate::covers::{cover_of, push_same, targets_at};
+use crate::effect::Steps;
+use crate::goal::Goal;
+use crate::nodes::node_over;
+use crate::parting::with_steps;
 use crate::partition::Partition;
-use crate::passage::{passage_between, push_all_before};
 use crate::place::Place;
+use crate::regions::{Region, region_where};
+use crate::stepping::{Shown, piece_number};
 use std::alloc::{AllocError, Global};
-use tv_cert::{Mark, Marked, Node, Proof, Verdict};
-use tv_cover::{Covered, are_even, cover, is_even};
-use tv_farkas::{Budget, CoverFault};
-use tv_linear::{Cover, CoverTree, Poly, Row, copies, copies_of_lists, push_copies};
+use tv_cert::{Aim, Mark, Marked, Node, Proof, Verdict};
 use tv_shape::node_of;
-use tv_walks::{Attempt, PIVOTS, SPLITS};
+use tv_walks::Attempt;
 
-/// A target of a cover: its rows, and the number and the fall by which it is entered.
-#[derive(Drop)]
-struct Target {
-    rows: Vec<Row>,
-    target: u32,
-    fall: u32,
-}
-
-/// The number of the piece of the place at this place among the pieces at its location.
-fn piece_number(places: &[Place], at: usize) -> u32 {
-    let Some(own) = places.get(at) else {
-        return 0;
-    };
-    let mut count: u32 = 0;
-    for place in places.iter().take(at) {
-        if !place.is_out && place.location == own.location {
-            count = count.saturating_add(1);
+/// The areas of the places.
+fn areas_of(alloc: Global, places: &[Place]) -> Result<Vec<Area>, AllocError> {
+    let mut areas = Vec::new(alloc);
+    for place in places {
+        if !place.is_out {
+            areas.push(place.area(alloc)?)?;
         }
     }
-    count
+    Ok(areas)
 }
 
-/// The rows of the targets.
-fn polys_of(alloc: Global, columns: u32, targets: &[Target]) -> Result<Vec<Poly>, AllocError> {
-    let mut polys = Vec::new(alloc);
-    for target in targets {
-        let rows = copies(alloc, &target.rows)?;
-        polys.push(Poly { columns, rows })?;
-    }
-    Ok(polys)
-}
-
-/// A cover of the rows by the polys; `None` where none was found.
-fn covered_by(
-    alloc: Global,
-    ambient: &Poly,
-    polys: &[Poly],
-    spending: &mut Spending,
-) -> Result<Option<Cover>, AllocError> {
-    if ambient.columns >= 1 << 31 || polys.len() >= 1 << 31 || !spending.effort.spend() {
-        return Ok(None);
-    }
-    if !is_even(&ambient.rows, ambient.columns) || !are_even(polys, ambient.columns) {
-        return Ok(None);
-    }
-    let budget = Budget {
-        pivots: PIVOTS,
-        splits: SPLITS,
-        disjuncts: 0,
-    };
-    match cover(alloc, ambient, polys, &budget) {
-        Ok(Covered::Tree(cover)) => Ok(Some(cover)),
-        Ok(Covered::Hole(_)) => Ok(None),
-        Err(CoverFault::Memory) => Err(AllocError),
-        Err(_) => Ok(None),
-    }
-}
-
-/// The same tree, in which each target is entered by its number and its fall.
-fn numbered(alloc: Global, tree: &CoverTree, targets: &[Target]) -> Result<CoverTree, AllocError> {
-    match tree {
-        CoverTree::Split(row, holds, fails) => {
-            let holds = Box::new(alloc, numbered(alloc, holds, targets)?)?;
-            let fails = Box::new(alloc, numbered(alloc, fails, targets)?)?;
-            Ok(CoverTree::Split(row.copy(alloc)?, holds, fails))
-        }
-        CoverTree::Empty(multipliers) => {
-            Ok(CoverTree::Empty(Vec::from_slice(alloc, multipliers)?))
-        }
-        CoverTree::Into {
-            target,
-            fall: _,
-            refutations,
-        } => {
-            let (target, fall) = match targets.get(*target as usize) {
-                Some(entered) => (entered.target, entered.fall),
-                None => (*target, 0),
-            };
-            Ok(CoverTree::Into {
-                target,
-                fall,
-                refutations: copies_of_lists(alloc, refutations)?,
-            })
-        }
-    }
-}
-
-/// A cover of the rows, over `width` columns, by the targets; `None` where none was found.
-fn cover_of(
-    alloc: Global,
-    width: usize,
-    rows: Vec<Row>,
-    targets: &[Target],
-    spending: &mut Spending,
-) -> Result<Option<Cover>, AllocError> {
-    let Ok(columns) = u32::try_from(width) else {
-        return Ok(None);
-    };
-    let polys = polys_of(alloc, columns, targets)?;
-    let ambient = Poly { columns, rows };
-    match covered_by(alloc, &ambient, &polys, spending)? {
-        None => Ok(None),
-        Some(cover) => Ok(Cover::new(numbered(alloc, cover.tree(), targets)?)),
-    }
-}
-
-/// Puts the rows that are met where the first ranks do not grow over a step and the last of them falls at the end of the list; whether none
-/// is too wide.
-fn push_falls(
-    alloc: Global,
-    effect: &Effect,
-    fall: u32,
-    from: &Place,
-    to: &Place,
-    rows: &mut Vec<Row>,
+/// Puts the pieces of the places at the end of the list; whether each row fits.
+fn push_pieces(
+    steps: &Steps,
+    places: &[Place],
+    pieces: &mut Vec<Marked>,
 ) -> Result<bool, AllocError> {
-    let last = fall as usize;
-    for (place, (before, after)) in from.ranks.iter().zip(&to.ranks).take(last).enumerate() {
-        let row = if place.saturating_add(1) == last {
-            effect.fall(alloc, before, after)?
-        } else {
-            effect.growth(alloc, before, after)?
-        };
-        match row {
-            None => return Ok(false),
-            Some(row) => rows.push(row)?,
-        }
-    }
-    let bound = match last.checked_sub(1).and_then(|place| from.ranks.get(place)) {
-        None => None,
-        Some(rank) => effect.not_below(alloc, rank)?,
-    };
-    match bound {
-        None => Ok(false),
-        Some(row) => {
-            rows.push(row)?;
-            Ok(true)
-        }
-    }
-}
-
-/// The target that is entered by a case between two places; `None` where a row is too wide.
-fn target_of(
-    steps: &Steps,
-    partition: &Partition,
-    effect: &Effect,
-    fall: u32,
-    from: &Place,
-    to: usize,
-) -> Result<Option<Target>, AllocError> {
-    let Some(entered) = partition.places.get(to) else {
-        return Ok(None);
-    };
-    let Some(mut rows) = effect.all_after(steps.alloc, &entered.rows)? else {
-        return Ok(None);
-    };
-    if !push_falls(steps.alloc, effect, fall, from, entered, &mut rows)? {
-        return Ok(None);
-    }
-    Ok(Some(Target {
-        rows,
-        target: piece_number(&partition.places, to),
-        fall,
-    }))
-}
-
-/// The targets of a case from the place at this place: the places that it enters.
-fn targets_of(
-    steps: &Steps,
-    partition: &Partition,
-    at: usize,
-    number: usize,
-    spending: &mut Spending,
-) -> Result<Vec<Target>, AllocError> {
-    let mut targets = Vec::new(steps.alloc);
-    let (Some(from), Some(effect)) = (partition.places.get(at), steps.effects.get(number)) else {
-        return Ok(targets);
-    };
-    for (to, entered) in partition.places.iter().enumerate() {
-        if !entered.is_out
-            && let Some(fall) = partition.fall_over(from, number, entered)
-            && passage_between(steps, &partition.places, at, number, to, spending)?.is_some()
-            && let Some(target) = target_of(steps, partition, effect, fall, from, to)?
-        {
-            targets.push(target)?;
-        }
-    }
-    Ok(targets)
-}
-
-/// The rows of the place, read before the step, and then the guards, as they stand in a certificate.
-fn rows_left(
-    alloc: Global,
-    effect: &Effect,
-    place: &Place,
-) -> Result<Option<Vec<Row>>, AllocError> {
-    let mut rows = Vec::new(alloc);
-    for row in &place.rows {
-        match effect.before(alloc, row)? {
-            None => return Ok(None),
-            Some(row) => rows.push(row)?,
-        }
-    }
-    push_copies(alloc, &effect.guards, &mut rows)?;
-    Ok(Some(rows))
-}
-
-/// The proof of the steps by a case from the place at this place; `None` where none was found.
-fn step_proof(
-    steps: &Steps,
-    partition: &Partition,
-    at: usize,
-    number: usize,
-    spending: &mut Spending,
-) -> Result<Option<Proof>, AllocError> {
-    let (Some(place), Some(effect)) = (partition.places.get(at), steps.effects.get(number)) else {
-        return Ok(None);
-    };
-    let Some(rows) = rows_left(steps.alloc, effect, place)? else {
-        return Ok(None);
-    };
-    let targets = targets_of(steps, partition, at, number, spending)?;
-    match cover_of(steps.alloc, effect.width, rows, &targets, spending)? {
-        None => Ok(None),
-        Some(cover) => Ok(Some(Proof::Covered(cover))),
-    }
-}
-
-/// Puts the proofs of the steps from the place at this place at the end of the list; whether all were found.
-fn push_proofs(
-    steps: &Steps,
-    partition: &Partition,
-    at: usize,
-    spending: &mut Spending,
-    proofs: &mut Vec<Proof>,
-) -> Result<bool, AllocError> {
-    let Some(place) = partition.places.get(at) else {
-        return Ok(false);
-    };
-    for (number, effect) in steps.effects.iter().enumerate() {
-        if effect.from == place.location {
-            match step_proof(steps, partition, at, number, spending)? {
+    for place in places {
+        if !place.is_out {
+            let area = place.area(steps.alloc)?;
+            match area.piece(steps.alloc, steps.columns, Mark::Go, &place.ranks)? {
                 None => return Ok(false),
-                Some(proof) => proofs.push(proof)?,
+                Some(piece) => pieces.push(piece)?,
             }
         }
     }
     Ok(true)
 }
 
-/// The proofs of the steps from all places; `None` where one was not found.
-fn proofs_of(
+/// Puts the pieces of the areas at the end of a fixpoint at the end of the list; whether each row fits.
+fn push_done_pieces(
     steps: &Steps,
-    partition: &Partition,
-    spending: &mut Spending,
-) -> Result<Option<Vec<Proof>>, AllocError> {
-    let mut proofs = Vec::new(steps.alloc);
-    for (at, place) in partition.places.iter().enumerate() {
-        if !place.is_out && !push_proofs(steps, partition, at, spending, &mut proofs)? {
+    areas: &[Area],
+    pieces: &mut Vec<Marked>,
+) -> Result<bool, AllocError> {
+    for area in areas {
+        match area.piece(steps.alloc, steps.columns, Mark::Done, &[])? {
+            None => return Ok(false),
+            Some(piece) => pieces.push(piece)?,
+        }
+    }
+    Ok(true)
+}
+
+/// The pieces of the areas at the end, and then those of the places; `None` where a row does not fit.
+fn pieces_of(shown: &Shown) -> Result<Option<Vec<Marked>>, AllocError> {
+    let mut pieces = Vec::new(shown.steps.alloc);
+    if push_done_pieces(shown.steps, shown.done, &mut pieces)?
+        && push_pieces(shown.steps, &shown.partition.places, &mut pieces)?
+    {
+        Ok(Some(pieces))
+    } else {
+        Ok(None)
+    }
+}
+
+/// The proofs of the steps from all places; `None` where one was not found.
+fn ending_proofs(shown: &Shown, spending: &mut Spending) -> Result<Option<Vec<Proof>>, AllocError> {
+    let mut proofs = Vec::new(shown.steps.alloc);
+    for (at, place) in shown.partition.places.iter().enumerate() {
+        if !place.is_out && !shown.push_steps(at, spending, &mut proofs)? {
             return Ok(None);
         }
     }
     Ok(Some(proofs))
 }
 
-/// The pieces of the places; `None` where a row does not fit.
-fn pieces_of(
-    alloc: Global,
-    columns: usize,
-    places: &[Place],
-) -> Result<Option<Vec<Marked>>, AllocError> {
-    let mut pieces = Vec::new(alloc);
-    if columns >= 1 << 31 {
+/// Puts the proofs that the areas are at the end at the end of the list; whether all were found.
+fn push_ends(
+    steps: &Steps,
+    areas: &[Area],
+    spending: &mut Spending,
+    proofs: &mut Vec<Proof>,
+) -> Result<bool, AllocError> {
+    for (at, area) in areas.iter().enumerate() {
+        let number = number_among(areas, at);
+        if !push_same(steps.alloc, steps.columns, area, number, spending, proofs)? {
+            return Ok(false);
+        }
+    }
+    Ok(true)
+}
+
+/// Puts the proofs that a run may stay at the place at this place, and that a step is possible there, at the end of the list; whether both
+/// were found.
+fn push_going(
+    shown: &Shown,
+    at: usize,
+    place: &Place,
+    spending: &mut Spending,
+    proofs: &mut Vec<Proof>,
+) -> Result<bool, AllocError> {
+    let steps = shown.steps;
+    let area = place.area(steps.alloc)?;
+    let number = piece_number(&shown.partition.places, at);
+    if !push_same(steps.alloc, steps.columns, &area, number, spending, proofs)? {
+        return Ok(false);
+    }
+    match some_step(steps, place, spending)? {
+        None => Ok(false),
+        Some(choice) => {
+            proofs.push(Proof::Chosen(choice))?;
+            Ok(true)
+        }
+    }
+}
+
+/// The proofs that each run from the places comes to the end; `None` where one was not found.
+fn coming_proofs(shown: &Shown, spending: &mut Spending) -> Result<Option<Vec<Proof>>, AllocError> {
+    let mut proofs = Vec::new(shown.steps.alloc);
+    if !push_ends(shown.steps, shown.done, spending, &mut proofs)? {
         return Ok(None);
     }
-    for place in places {
-        if !place.is_out {
-            match Marked::from_rows(
-                alloc,
-                place.location,
-                Mark::Go,
-                columns as u32,
-                &place.rows,
-                &place.ranks,
-            )? {
-                None => return Ok(None),
-                Some(piece) => pieces.push(piece)?,
-            }
+    for (at, place) in shown.partition.places.iter().enumerate() {
+        if !place.is_out
+            && (!push_going(shown, at, place, spending, &mut proofs)?
+                || !shown.push_steps(at, spending, &mut proofs)?)
+        {
+            return Ok(None);
         }
     }
-    Ok(Some(pieces))
+    Ok(Some(proofs))
 }
 
-/// The places where runs begin, as targets without a fall.
-fn first_targets(steps: &Steps, places: &[Place]) -> Result<Vec<Target>, AllocError> {
-    let mut targets = Vec::new(steps.alloc);
-    for (at, place) in places.iter().enumerate() {
-        if !place.is_out && place.is_first() && place.location == steps.start {
-            targets.push(Target {
-                rows: copies(steps.alloc, &place.rows)?,
-                target: piece_number(places, at),
-                fall: 0,
-            })?;
-        }
-    }
-    Ok(targets)
+/// The region of these pieces and proofs; `None` where a row does not fit.
+fn region_shown(
+    shown: &Shown,
+    children: Vec<Node>,
+    proofs: Vec<Proof>,
+) -> Result<Option<Region>, AllocError> {
+    let alloc = shown.steps.alloc;
+    let Some(pieces) = pieces_of(shown)? else {
+        return Ok(None);
+    };
+    let mut areas = areas_of(alloc, &shown.partition.places)?;
+    let mut all = Vec::new(alloc);
+    push_areas(alloc, shown.done, &mut all)?;
+    all.append(&mut areas)?;
+    let node = node_of(alloc, pieces, shown.partition.ranks, children, proofs)?;
+    Ok(Some(Region { areas: all, node }))
 }
 
-/// The node that says that every run from the places ends; `None` where a proof was not found.
-fn node_by(
+/// The region that says that every run from the places ends; `None` where a proof was not found.
+fn ending_region(
     steps: &Steps,
     partition: &Partition,
     spending: &mut Spending,
-) -> Result<Option<Node>, AllocError> {
-    let Some(proofs) = proofs_of(steps, partition, spending)? else {
-        return Ok(None);
+) -> Result<Option<Region>, AllocError> {
+    let shown = Shown {
+        steps,
+        partition,
+        done: &[],
     };
-    let Some(pieces) = pieces_of(steps.alloc, steps.columns, &partition.places)? else {
-        return Ok(None);
-    };
-    let children = Vec::new(steps.alloc);
-    let node = node_of(steps.alloc, pieces, partition.ranks, children, proofs)?;
-    Ok(Some(node))
+    match ending_proofs(&shown, spending)? {
+        None => Ok(None),
+        Some(proofs) => region_shown(&shown, Vec::new(steps.alloc), proofs),
+    }
 }
 
-/// The parts of a certificate that every run ends, by a partition whose ranks are all found; `None` where a proof was not found.
+/// The nodes of the arguments: of the first, which is true, with the places as pieces, and that of the second.
+fn children_of(
+    shown: &Shown,
+    first: &Aim,
+    second: Node,
+    spending: &mut Spending,
+) -> Result<Option<Vec<Node>>, AllocError> {
+    let areas = areas_of(shown.steps.alloc, &shown.partition.places)?;
+    match node_over(shown.steps, first, &areas, &mut None, spending)? {
+        None => Ok(None),
+        Some(first) => {
+            let mut children = Vec::new(shown.steps.alloc);
+            children.push(first)?;
+            children.push(second)?;
+            Ok(Some(children))
+        }
+    }
+}
+
+/// The region that says that every run from the places comes to where the second formula holds; `None` where a proof was not found.
+fn coming_region(
+    steps: &Steps,
+    partition: &Partition,
+    first: &Aim,
+    second: &Aim,
+    spending: &mut Spending,
+) -> Result<Option<Region>, AllocError> {
+    let Some(Region { areas, node }) = region_where(steps, second, spending)? else {
+        return Ok(None);
+    };
+    let shown = Shown {
+        steps,
+        partition,
+        done: &areas,
+    };
+    let Some(children) = children_of(&shown, first, node, spending)? else {
+        return Ok(None);
+    };
+    match coming_proofs(&shown, spending)? {
+        None => Ok(None),
+        Some(proofs) => region_shown(&shown, children, proofs),
+    }
+}
+
+/// The region of the goal; `None` where a proof was not found.
+fn region_by(
+    steps: &Steps,
+    goal: Goal,
+    partition: Partition,
+    spending: &mut Spending,
+) -> Result<Option<Region>, AllocError> {
+    match goal {
+        Goal::Ends => ending_region(steps, &partition, spending),
+        Goal::Comes { first, second } => match with_steps(steps, partition, spending)? {
+            None => Ok(None),
+            Some(partition) => coming_region(steps, &partition, first, second, spending),
+        },
+    }
+}
+
+/// The parts of a certificate of the formula, whose goal this is, by a partition whose ranks are all found; `None` where a proof was not found.
 pub(crate) fn attempt_by(
     steps: &Steps,
-    partition: &Partition,
+    aim: &Aim,
+    goal: Goal,
+    partition: Partition,
     spending: &mut Spending,
 ) -> Result<Option<Attempt>, AllocError> {
-    let Some(root) = node_by(steps, partition, spending)? else {
+    let Some(Region { areas, node }) = region_by(steps, goal, partition, spending)? else {
         return Ok(None);
     };
-    let targets = first_targets(steps, &partition.places)?;
+    let Some(root) = node_over(steps, aim, &areas, &mut Some(node), spending)? else {
+        return Ok(None);
+    };
+    let targets = targets_at(steps.alloc, &areas, steps.start)?;
     let rows = Vec::new(steps.alloc);
     match cover_of(steps.alloc, steps.columns, rows, &targets, spending)? {
         None => Ok(None),

@@ -24,3 +24,6 @@ pub(crate) const SYSTEM_ENTRIES: usize = 200_000;
 
 /// How many splits lie on a path where whole points of a step are looked for.
 pub(crate) const POINT_SPLITS: u32 = 4;
+
+/// How many lists of rows a formula has at most at a location.
+pub(crate) const LISTS: usize = 24;

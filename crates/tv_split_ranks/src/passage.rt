@@ -61,22 +61,22 @@ fn may_have_whole_point(
     }
 }
 
-/// The rows that are met where the step is taken from the one place into the other, read before it; `None` where it is never taken, or a row
-/// is too wide.
+/// The rows that are met where the step is taken from states of the first rows to states of the others, read before it; `None` where it is
+/// never taken, or a row is too wide.
 fn rows_between(
     alloc: Global,
     effect: &Effect,
-    from: &Place,
-    to: &Place,
+    left: &[Row],
+    entered: &[Row],
     spending: &mut Spending,
 ) -> Result<Option<Vec<Row>>, AllocError> {
     let mut rows = Vec::new(alloc);
-    let Some(entered) = effect.all_after(alloc, &to.rows)? else {
+    let Some(after) = effect.all_after(alloc, entered)? else {
         return Ok(None);
     };
-    if !push_all_before(alloc, effect, &from.rows, &mut rows)?
+    if !push_all_before(alloc, effect, left, &mut rows)?
         || !push_all_strongest(alloc, &effect.guards, &mut rows)?
-        || !push_all_strongest(alloc, &entered, &mut rows)?
+        || !push_all_strongest(alloc, &after, &mut rows)?
         || !may_have_whole_point(alloc, &rows, effect.width, spending)?
     {
         return Ok(None);
@@ -84,8 +84,19 @@ fn rows_between(
     Ok(Some(rows))
 }
 
+/// Whether the step may be taken from states of the first rows to states of the others.
+pub(crate) fn may_enter(
+    alloc: Global,
+    effect: &Effect,
+    left: &[Row],
+    entered: &[Row],
+    spending: &mut Spending,
+) -> Result<bool, AllocError> {
+    Ok(rows_between(alloc, effect, left, entered, spending)?.is_some())
+}
+
 /// Puts the rows over the variables, read before the step, into the list; whether some point may meet each.
-pub(crate) fn push_all_before(
+fn push_all_before(
     alloc: Global,
     effect: &Effect,
     rows: &[Row],
@@ -122,7 +133,7 @@ pub(crate) fn passage_between(
     {
         return Ok(None);
     }
-    match rows_between(steps.alloc, effect, left, entered, spending)? {
+    match rows_between(steps.alloc, effect, &left.rows, &entered.rows, spending)? {
         None => Ok(None),
         Some(rows) => Ok(Some(Passage {
             from,

@@ -1,5 +1,6 @@
+use crate::area::Area;
 use crate::budget::Spending;
-use crate::strongest::{push_all_strongest, push_strongest};
+use crate::strongest::push_all_strongest;
 use std::alloc::{AllocError, Global};
 use tv_linear::{Row, copies};
 use tv_walks::{denied, may_have_point};
@@ -71,7 +72,26 @@ impl Place {
         })
     }
 
-    /// The part of the place where one more row is met, under this name; `None` where it is empty.
+    /// The part of the place where these rows are met too, under this name; `None` where it is empty.
+    pub(crate) fn part_where(
+        &self,
+        alloc: Global,
+        columns: usize,
+        rows: &[Row],
+        name: usize,
+        spending: &mut Spending,
+    ) -> Result<Option<Place>, AllocError> {
+        let mut part = self.copy(alloc)?;
+        if !push_all_strongest(alloc, rows, &mut part.rows)?
+            || !may_have_point(alloc, &part.rows, columns, &mut spending.effort)?
+        {
+            return Ok(None);
+        }
+        part.names.push(name)?;
+        Ok(Some(part))
+    }
+
+    /// The same of one row.
     fn part(
         &self,
         alloc: Global,
@@ -80,14 +100,17 @@ impl Place {
         name: usize,
         spending: &mut Spending,
     ) -> Result<Option<Place>, AllocError> {
-        let mut part = self.copy(alloc)?;
-        if !push_strongest(alloc, row, &mut part.rows)?
-            || !may_have_point(alloc, &part.rows, columns, &mut spending.effort)?
-        {
-            return Ok(None);
-        }
-        part.names.push(name)?;
-        Ok(Some(part))
+        let mut rows = Vec::new(alloc);
+        rows.push(row.copy(alloc)?)?;
+        self.part_where(alloc, columns, &rows, name, spending)
+    }
+
+    /// The area of the place.
+    pub(crate) fn area(&self, alloc: Global) -> Result<Area, AllocError> {
+        Ok(Area {
+            location: self.location,
+            rows: copies(alloc, &self.rows)?,
+        })
     }
 
     /// The parts of the place where the row is met and where it is not, under this name and the next; `None` where one of them is empty.

@@ -1,22 +1,23 @@
 // The places that the search begins with.
 
+use crate::area::Area;
 use crate::budget::Spending;
 use crate::effect::{Effect, Steps};
 use crate::place::{Origin, Place, place_of};
 use crate::strongest::push_strongest;
-use std::alloc::AllocError;
+use std::alloc::{AllocError, Global};
 use tv_candidates::Candidate;
-use tv_linear::{Row, copies};
+use tv_linear::{Row, copies, push_copies};
 use tv_walks::{denied, is_known, is_without_draws, less, number_row};
 
 /// Which places the search begins with.
 #[derive(Clone, Copy)]
 pub(crate) enum Beginning {
-    /// Each location whole.
-    Locations,
-    /// Each location, with the rows that are known there.
+    /// Each area as it is.
+    Areas,
+    /// Each area, with the rows that are known at its location.
     Known,
-    /// Each case, with the rows that hold after it, and the location where runs begin.
+    /// Each area for each case that leads there, with the rows that hold after it, and those where runs begin.
     Cases,
 }
 
@@ -46,14 +47,44 @@ fn push_place(
     Ok(())
 }
 
-/// Each location, with the rows that are known there.
-fn whole_places(steps: &Steps, known: &[Candidate]) -> Result<Vec<Place>, AllocError> {
+/// The rows, and then those of the area.
+fn with_area(alloc: Global, rows: &[Row], area: &Area) -> Result<Vec<Row>, AllocError> {
+    let mut all = copies(alloc, rows)?;
+    push_copies(alloc, &area.rows, &mut all)?;
+    Ok(all)
+}
+
+/// Each area, with the rows that are known at its location.
+fn whole_places(
+    steps: &Steps,
+    areas: &[Area],
+    known: &[Candidate],
+) -> Result<Vec<Place>, AllocError> {
     let mut places = Vec::new(steps.alloc);
-    for location in 0..steps.locations {
-        let rows = known_at(steps, known, location)?;
-        push_place(steps, location, Origin::Any, &rows, &mut places)?;
+    for area in areas {
+        let rows = known_at(steps, known, area.location)?;
+        let rows = with_area(steps.alloc, &rows, area)?;
+        push_place(steps, area.location, Origin::Any, &rows, &mut places)?;
     }
     Ok(places)
+}
+
+/// Puts the place of each of the areas at the location, with the rows, at the end of the list.
+fn push_places(
+    steps: &Steps,
+    areas: &[Area],
+    location: u32,
+    origin: Origin,
+    rows: &[Row],
+    places: &mut Vec<Place>,
+) -> Result<(), AllocError> {
+    for area in areas {
+        if area.location == location {
+            let rows = with_area(steps.alloc, rows, area)?;
+            push_place(steps, location, origin, &rows, places)?;
+        }
+    }
+    Ok(())
 }
 
 /// Puts the row over the variables at the end of the list, where it holds after each step by the case from states that meet the rows.
@@ -134,33 +165,36 @@ fn rows_after(
     Ok(held)
 }
 
-/// A place for each case, with the rows that hold after it, and one where runs begin.
+/// A place in each area for each case, with the rows that hold after it, and one where runs begin.
 fn places_after(
     steps: &Steps,
+    areas: &[Area],
     known: &[Candidate],
     spending: &mut Spending,
 ) -> Result<Vec<Place>, AllocError> {
     let mut places = Vec::new(steps.alloc);
     let start = steps.start;
     let rows = known_at(steps, known, start)?;
-    push_place(steps, start, Origin::Start, &rows, &mut places)?;
+    push_places(steps, areas, start, Origin::Start, &rows, &mut places)?;
     for (number, effect) in steps.effects.iter().enumerate() {
         let rows = rows_after(steps, known, effect, spending)?;
-        push_place(steps, effect.to, Origin::Case(number), &rows, &mut places)?;
+        let origin = Origin::Case(number);
+        push_places(steps, areas, effect.to, origin, &rows, &mut places)?;
     }
     Ok(places)
 }
 
-/// The places that the search begins with; there may be too many.
+/// The places in these areas that the search begins with; there may be too many.
 pub(crate) fn first_places(
     steps: &Steps,
+    areas: &[Area],
     known: &[Candidate],
     beginning: Beginning,
     spending: &mut Spending,
 ) -> Result<Vec<Place>, AllocError> {
     match beginning {
-        Beginning::Locations => whole_places(steps, &[]),
-        Beginning::Known => whole_places(steps, known),
-        Beginning::Cases => places_after(steps, known, spending),
+        Beginning::Areas => whole_places(steps, areas, &[]),
+        Beginning::Known => whole_places(steps, areas, known),
+        Beginning::Cases => places_after(steps, areas, known, spending),
     }
 }
