@@ -65,8 +65,8 @@ pub use growing::until;
 pub use junction::{each_of, one_of};
 pub use laws::{
     acyclic_programs_are_ranked, acyclic_rounds_settle, decided_claims_are_told, full_regions_tell,
-    questions_are_within_size, ranked_untils_are_told, refusals_are_within_size, regions_are_within_size,
-    settled_claims_are_told,
+    questions_are_within_size, ranked_untils_are_told, refusals_are_within_size,
+    regions_are_within_size, settled_claims_are_told,
 };
 pub use outcome::Found;
 pub use part::Part;

@@ -108,7 +108,11 @@ fn unsolved_line(alloc: Global, fault: &SystemFault) -> Result<String, AllocErro
 }
 
 /// The line that says which system it is, and where or how it was not settled.
-fn system_line(alloc: Global, system: &NamedSystem, fault: &SystemFault) -> Result<String, AllocError>
+fn system_line(
+    alloc: Global,
+    system: &NamedSystem,
+    fault: &SystemFault,
+) -> Result<String, AllocError>
     ensures { IfOk result (λ text. string_bytes text ≡ system_line system.now fault.now) }
 {
     let words = system_words(alloc, system)?;

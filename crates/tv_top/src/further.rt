@@ -67,11 +67,13 @@ pub(crate) fn or_looked(alloc: Global, search: &Search, answer: Answer) -> Answe
 fn is_of_ranks(system: &NamedSystem) -> bool {
     match system {
         NamedSystem::Searched(Name::Empty(_)) => true,
-        NamedSystem::Searched(Name::Rank {
-            component: _,
-            round: _,
-            falling: _,
-        }) => true,
+        NamedSystem::Searched(
+            Name::Rank {
+                component: _,
+                round: _,
+                falling: _,
+            },
+        ) => true,
         NamedSystem::Nested {
             component: _,
             depth: _,
