@@ -102,15 +102,15 @@ module _ (about : CaseSystem) (known : List Piece) (numbers : List ℕ) (compone
   greedy_told set rank.Memory fault.Memory taken told h = tt
 
   -- ---- the refusal of a nested system
-  system_refused : (set : List ℕ) (d : ℕ) (e : SolveFault) → IsLeft about known numbers component set → 2 ≤ d → d ≤ 4 → ((f : SolveFault) → IsSystemFault (system_of_set about known set d) pivots f → RefusesDepth about known set pivots d f) → IsRefusal (system_of_set about known set d) pivots e → RefusesParted about known numbers component pivots (refusal_of (named.Nest component d) e)
-  system_refused set d (Width basis row column) left deep shallow h r = (refl, (set, left, h (Width basis row column) r))
-  system_refused set d (Scale basis) left deep shallow h r = (refl, (set, left, h (Scale basis) r))
-  system_refused set d (Pivots bases) left deep shallow h r = (refl, (set, left, h (Pivots bases) r))
-  system_refused set d (Size height width) left deep shallow h r = (refl, (set, left, h (Size height width) r))
-  system_refused set d Memory left deep shallow h r = tt
+  system_refused : (set : List ℕ) (d : ℕ) (e : SolveFault) → IsLeft about known numbers component set → ((f : SolveFault) → IsSystemFault (system_of_set about known set d) pivots f → RefusesDepth about known set pivots d f) → IsRefusal (system_of_set about known set d) pivots e → RefusesParted about known numbers component pivots (refusal_of (named.Nest component d) e)
+  system_refused set d (Width basis row column) left h r = (refl, (set, left, h (Width basis row column) r))
+  system_refused set d (Scale basis) left h r = (refl, (set, left, h (Scale basis) r))
+  system_refused set d (Pivots bases) left h r = (refl, (set, left, h (Pivots bases) r))
+  system_refused set d (Size height width) left h r = (refl, (set, left, h (Size height width) r))
+  system_refused set d Memory left h r = tt
 
   pub depth_refused : (set : List ℕ) (e : DepthFault) → IsLeft about known numbers component set → IsDepthFault about known set pivots e → RefusesParted about known numbers component pivots (refusal_of (named.Nest component e.depth) e.fault)
-  depth_refused set e left h = system_refused set e.depth e.fault left h.deep h.shallow (λ f r. record {
+  depth_refused set e left h = system_refused set e.depth e.fault left (λ f r. record {
     deep = h.deep;
     shallow = h.shallow;
     before = h.before;

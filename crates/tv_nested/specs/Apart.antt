@@ -25,5 +25,6 @@ pub record IsApart (about : CaseSystem) (component : ℕ) (p : Part) (k : ℕ) :
 -- what shows such a case by the number of the component and the terms of its rounds, where no rows are known
 abbrev pub ShowsBare : CaseSystem → ℕ → Part → ℕ → CaseShown → Type 0
 ShowsBare about component p k shown =
+    let v = about.variables in
     let c = case_at about.cases k in
-    IsShownBy about.variables (way_with c []) (ranks_at about.variables component p.rounds.items c.from) (ranks_at about.variables component p.rounds.items c.to) shown
+    IsShownBy v (way_with c []) (ranks_at v component p.rounds.items c.from) (ranks_at v component p.rounds.items c.to) shown

@@ -79,7 +79,8 @@ NamesSystem about known numbers pivots (named.Empty k) e =
 NamesSystem about known numbers pivots (named.Rank component round falling) e =
     NamesPart about known numbers component pivots (name.Rank component round falling) e × AreNestedBefore about known numbers component
 NamesSystem about known numbers pivots (named.Nest component d) e =
-    (set : List ℕ) × IsLeft about known numbers component set × RefusesDepth about known set pivots d e × AreNestedBefore about known numbers component
+    (set : List ℕ) × IsLeft about known numbers component set × RefusesDepth about known set pivots d e
+    × AreNestedBefore about known numbers component
 
 -- a sign at a location of the component is too wide when it is denied
 pub record IsDeniedWide (about : CaseSystem) (numbers : List ℕ) (component : ℕ) (part : Part) (f : CoverFault) : Type 0 where
