@@ -25,6 +25,7 @@ use Rattle.tv_shape.specs.declared.certificate.Certificate.{Certificate}
 use Rattle.tv_lexrank.specs.Certified.{SaysProved}
 use Rattle.tv_sound.specs.Following.{FollowsFrom}
 use Rattle.tv_sound.specs.Settled.{IsSettled}
+use Rattle.tv_settling.specs.declared.fault.EndFault.{EndFault}
 use Rattle.tv_settling.specs.declared.fault.EndFault.TheVariants as ends
 use Rattle.tv_settling.specs.Ends.{IsStuckAlone}
 use Rattle.tv_settling.specs.Refusals.{RefusesSafety}
@@ -68,7 +69,7 @@ use Rattle.tv_pre.specs.declared.gap.Gap.TheVariants.{Inexact, Open}
 use Rattle.tv_pre.specs.declared.deciding.Unproved.{Unproved}
 use Rattle.tv_pre.specs.declared.deciding.Unproved.TheVariants.{Refused, Left, Wide}
 use Rattle.tv_pre.proofs.WithinSize.{refusal_within_size}
-use Rattle.tv_top.specs.Searching.{IsUnknown, IsFormulaAnswer, AnswersRegion, AnswersRefusal, AnswersLeft, AnswersUnproved}
+use Rattle.tv_top.specs.Searching.{IsUnknown, IsNestAnswer, IsEndAnswer, IsFormulaAnswer, AnswersRegion, AnswersRefusal, AnswersLeft, AnswersUnproved}
 use Rattle.tv_top.specs.declared.search.Search.{Search}
 use Rattle.tv_top.specs.Views.{wanted_view}
 use Rattle.tv_program.specs.Programs.{system_of}
@@ -187,13 +188,13 @@ module _ (offers : Offers) (task : Task) (p : System) (f : Property) (about : Ca
   uncovered_end covers.Memory h = tt
 
   -- a system of the search for ranks that was not settled is answered
-  pub system_so : (system : Name) (fault : SolveFault) → IsEndFault about (offers about) budget (ends.Solve system fault) → Finds offers task p f about (unsolved system fault)
+  system_so : (system : Name) (fault : SolveFault) → IsEndFault about (offers about) budget (ends.Solve system fault) → Finds offers task p f about (unsolved system fault)
   system_so system fault h =
       unsolved_so offers task p f about (Searched system) fault
       (λ e same. of_ends n (inl (inl (system, refl, subst (λ k. IsEndFault about (offers about) budget (ends.Solve system k)) (sym same) h))))
 
   -- and so is a question of integer points
-  pub question_end : (fault : CoverFault) → IsEndFault about (offers about) budget (ends.Cover fault) → Finds offers task p f about (uncovered fault)
+  question_end : (fault : CoverFault) → IsEndFault about (offers about) budget (ends.Cover fault) → Finds offers task p f about (uncovered fault)
   question_end fault h = uncovered_end fault (inl h)
 
   -- and why no run that never ends was found
@@ -201,7 +202,7 @@ module _ (offers : Offers) (task : Task) (p : System) (f : Property) (about : Ca
   round_so stuck fault h = question_end fault (round stuck fault refl h)
 
   -- and why it was not settled whether terms are nested
-  pub unnested_so : (fault : NestFault) → IsNestFault about (offers about) budget fault → Finds offers task p f about (unnested fault)
+  unnested_so : (fault : NestFault) → IsNestFault about (offers about) budget fault → Finds offers task p f about (unnested fault)
   unnested_so (nested.Solve system fault) h =
       unsolved_so offers task p f about (nest_system system) fault
       (λ e same. of_ends n (inl (inr (system, refl, subst (λ k. IsNestFault about (offers about) budget (nested.Solve system k)) (sym same) h))))
@@ -209,9 +210,25 @@ module _ (offers : Offers) (task : Task) (p : System) (f : Property) (about : Ca
   unnested_so nested.Memory h = tt
 
   -- no terms rank the cases, and none are nested
-  pub unranked_so : (set : Vec ℕ Global) (barriers : Vec (Vec ℤ Global) Global) → IsEndFault about (offers about) budget (ends.Rank set barriers) → HasUnnested about
+  unranked_so : (set : Vec ℕ Global) (barriers : Vec (Vec ℤ Global) Global) → IsEndFault about (offers about) budget (ends.Rank set barriers) → HasUnnested about
       → Finds offers task p f about (Unknown (Unranked set barriers))
   unranked_so set barriers h none = of_ends n (h, none)
+
+  -- what comes of nested terms
+  nested_so : (set : Vec ℕ Global) (barriers : Vec (Vec ℤ Global) Global) → IsEndFault about (offers about) budget (ends.Rank set barriers) → (answer : Answer)
+      → IsNestAnswer task.wanted p f about budget set barriers answer → Finds offers task p f about answer
+  nested_so set barriers h answer (inl g) = settles_found offers task p f about answer g
+  nested_so set barriers h answer (inr (inl (e, none))) = subst (λ a. Finds offers task p f about a) (sym e) (unranked_so set barriers h none)
+  nested_so set barriers h answer (inr (inr (fault, e, refused))) =
+      subst (λ a. Finds offers task p f about a) (sym e) (unnested_so fault (record { set = set; barriers = barriers; unranked = h; refused = refused }))
+
+  -- what comes of a search for ranks that gives no certificate
+  pub ended_so : (fault : EndFault) → IsEndFault about (offers about) budget fault → (answer : Answer) → IsEndAnswer task.wanted p f about budget fault answer
+      → Finds offers task p f about answer
+  ended_so (ends.Solve system fault) h answer is = subst (λ a. Finds offers task p f about a) (sym is) (system_so system fault h)
+  ended_so (ends.Cover fault) h answer is = subst (λ a. Finds offers task p f about a) (sym is) (question_end fault h)
+  ended_so (ends.Rank set barriers) h answer is = nested_so set barriers h answer is
+  ended_so ends.Memory h answer is = subst (λ a. Finds offers task p f about a) (sym is) tt
 
 -- ---- why it is not known whether a run comes to a location
 module _ (offers : Offers) (task : Task) (p : System) (f : Property) (about : CaseSystem) (l : ℕ) (n : normal f ≡ never_at l) where

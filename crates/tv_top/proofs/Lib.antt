@@ -5,3 +5,4 @@ pub mod Drawn
 pub mod Lines
 pub mod Taken
 pub mod Made
+pub mod Visits

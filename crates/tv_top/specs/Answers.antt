@@ -1,6 +1,6 @@
 -- What a run writes, and how it ends.
 use Rattle.std.specs.declared.alloc.AllocError.{AllocError}
-use Rattle.std.specs.Prelude.{Result, Ok, Err, ℕ, ◌+◌, ℤ, List, [], ◌∷◌, ◌++◌, codes, decimal}
+use Rattle.std.specs.Prelude.{Result, Ok, Err, ℕ, ◌+◌, ◌/◌, ℤ, List, [], ◌∷◌, ◌++◌, codes, decimal}
 use Rattle.std.specs.Fmt.{signed_decimal}
 use Rattle.tv_program.specs.Words.{Word}
 use Rattle.tv_cert.specs.declared.node.Kind.{Kind}

@@ -1,6 +1,7 @@
 -- What the answer of a search says.
 use Rattle.std.specs.declared.alloc.AllocError.{AllocError}
-use Rattle.std.specs.Prelude.{◌≡◌, ◌⊎◌, ℕ, List, Result, Ok, IfOk}
+use Rattle.std.specs.Global.{Global}
+use Rattle.std.specs.Prelude.{◌≡◌, ◌⊎◌, ℕ, ℤ, List, Vec, Result, Ok, IfOk}
 use Rattle.tv_program.specs.Programs.{system_of}
 use Rattle.tv_formula.specs.Formulas.{property_of}
 use Rattle.tv_formula.specs.Normal.{negation}
@@ -9,6 +10,10 @@ use Rattle.tv_farkas.specs.declared.budget.Budget.{Budget}
 use Rattle.tv_farkas.specs.declared.fault.CoverFault.{CoverFault}
 use Rattle.tv_candidates.specs.declared.candidate.Candidate.{Candidate}
 use Rattle.tv_settling.specs.Refusals.{RefusesSafety}
+use Rattle.tv_settling.specs.declared.fault.EndFault.{EndFault}
+use Rattle.tv_settling.specs.declared.fault.EndFault.TheVariants as ends
+use Rattle.tv_nested.specs.Nested.{RefusesNest}
+use Rattle.tv_nested.specs.declared.fault.NestFault.{NestFault}
 use Rattle.tv_cases.specs.Answers.{IsOfProgram, HaveSameSteps}
 use Rattle.tv_cases.specs.ProgramCases.{linear_cases}
 use Rattle.tv_cases.specs.Systems.{cases_of}
@@ -33,8 +38,9 @@ use Rattle.tv_pre.specs.declared.deciding.Unproved.TheVariants as unproved
 use Rattle.tv_top.specs.declared.answer.Answer.TheVariants as answers
 use Rattle.tv_top.specs.declared.cause.Cause.{Cause}
 use Rattle.tv_top.specs.declared.cause.Cause.TheVariants as causes
-use Rattle.tv_top.specs.Answers.{unsolved, uncovered, too_wide, unknown}
-use Rattle.tv_top.specs.Finding.{Offers, Finds, Settles, budget_of, AreTooManyPieces, IsDrawnAt, IsUnprovedOf}
+use Rattle.tv_top.specs.Answers.{unsolved, uncovered, unnested, too_wide, unknown}
+use Rattle.tv_top.specs.Tasks.{Wanted}
+use Rattle.tv_top.specs.Finding.{Offers, Finds, Settles, HasUnnested, budget_of, AreTooManyPieces, IsDrawnAt, IsUnprovedOf}
 use Rattle.tv_top.specs.Views.{wanted_view, task_view}
 
 -- the cases are those of the program, and the claim is stated over its variables
@@ -56,6 +62,21 @@ abbrev pub IsReachedOrNot : Search → Property → Found → Answer → Type 0
 IsReachedOrNot s f found answer =
     Settles (wanted_view s.task.now.wanted) (system_of s.program.now) f (cases_of s.about.now) answer
     ⊎ ((fault : PointFault) × (answer ≡ too_wide fault) × IsRunFault (cases_of s.about.now) found fault)
+
+-- ---- ranks
+-- the answer of a certificate by nested terms, or that no terms rank the set and none are nested, or why this is not settled
+abbrev pub IsNestAnswer : Wanted → System → Property → CaseSystem → Budget → Vec ℕ Global → Vec (Vec ℤ Global) Global → Answer → Type 0
+IsNestAnswer wanted p f about budget set barriers answer =
+    Settles wanted p f about answer
+    ⊎ (((answer ≡ answers.Unknown (causes.Unranked set barriers)) × HasUnnested about)
+    ⊎ ((fault : NestFault) × (answer ≡ unnested fault) × RefusesNest about budget fault))
+
+-- the answer where a search for ranks gives this in place of a certificate
+abbrev pub IsEndAnswer : Wanted → System → Property → CaseSystem → Budget → EndFault → Answer → Type 0
+IsEndAnswer wanted p f about budget (ends.Solve system fault) answer = answer ≡ unsolved system fault
+IsEndAnswer wanted p f about budget (ends.Cover fault) answer = answer ≡ uncovered fault
+IsEndAnswer wanted p f about budget (ends.Rank set barriers) answer = IsNestAnswer wanted p f about budget set barriers answer
+IsEndAnswer wanted p f about budget ends.Memory answer = answer ≡ answers.Memory
 
 -- ---- formulas over paths
 

@@ -7,11 +7,10 @@ ghost use Rattle.tv_program.specs.Programs.{system_of};
 ghost use Rattle.tv_cases.specs.Systems.{cases_of};
 ghost use Rattle.tv_cert.specs.Claims.{IsClaim};
 ghost use Rattle.tv_nested.specs.Nested.{IsNestedNode};
-ghost use Rattle.tv_settling.specs.declared.fault.EndFault.TheVariants.{Rank};
 ghost use Rattle.tv_top.specs.Answers.{unnested};
-ghost use Rattle.tv_top.specs.Finding.{Offers, budget_of, IsEndFault, Settles};
-ghost use Rattle.tv_top.specs.Searching.{IsOfOne, Answers};
-ghost use Rattle.tv_top.specs.Views.{wanted_view, task_view};
+ghost use Rattle.tv_top.specs.Finding.{Settles};
+ghost use Rattle.tv_top.specs.Searching.{IsOfOne, IsNestAnswer, IsEndAnswer};
+ghost use Rattle.tv_top.specs.Views.{wanted_view};
 
 use crate::answer::Answer;
 use crate::cause::Cause;
@@ -61,9 +60,8 @@ fn ends_nested(
 ) -> Answer
     requires one { IsOfOne search.now }
     requires ends { property_of search.now.claim.now.proved ≡ term }
-    requires budget { budget.now ≡ budget_of (task_view search.now.task.now).limits }
-    ensures { (offers : Offers) → IsEndFault (cases_of search.now.about.now) (offers (cases_of search.now.about.now)) budget.now (Rank set barriers) →
-        (f : Property) → IsClaim search.now.claim.now f → Answers offers search.now f result }
+    ensures { let s = search.now in let p = system_of s.program.now in (f : Property) → IsClaim s.claim.now f →
+        IsNestAnswer (wanted_view s.task.now.wanted) p f (cases_of s.about.now) budget.now set barriers result }
 {
     match nest(alloc, search.about, budget) {
         Ok(Nested::Node { node, start }) => nested_end(alloc, search, node, start),
@@ -76,9 +74,8 @@ fn ends_nested(
 pub(crate) fn ended(alloc: Global, search: &Search, budget: &Budget, fault: EndFault) -> Answer
     requires one { IsOfOne search.now }
     requires ends { property_of search.now.claim.now.proved ≡ term }
-    requires budget { budget.now ≡ budget_of (task_view search.now.task.now).limits }
-    ensures { (offers : Offers) → IsEndFault (cases_of search.now.about.now) (offers (cases_of search.now.about.now)) budget.now fault →
-        (f : Property) → IsClaim search.now.claim.now f → Answers offers search.now f result }
+    ensures { let s = search.now in let p = system_of s.program.now in (f : Property) → IsClaim s.claim.now f →
+        IsEndAnswer (wanted_view s.task.now.wanted) p f (cases_of s.about.now) budget.now fault result }
 {
     match fault {
         EndFault::Solve { system, fault } => unsolved(system, fault),

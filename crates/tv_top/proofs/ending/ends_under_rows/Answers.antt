@@ -1,10 +1,14 @@
+use Rattle.std.proofs.Common.{◌≡◌, ◌∙◌, sym, subst}
+use Rattle.tv_formula.specs.Normal.{normal}
+use Rattle.tv_formula.specs.Properties.{term}
+use Rattle.tv_top.specs.Searching.{IsEndAnswer}
 use Rattle.tv_program.specs.Programs.{system_of}
 use Rattle.tv_cases.specs.Systems.{cases_of}
 use Rattle.tv_invariant.specs.Asking.{Gave}
 use Rattle.tv_settling.specs.Ends.{RefusesFound}
 use Rattle.tv_top.specs.Finding.{Offers, found}
 use Rattle.tv_top.specs.Views.{task_view}
-use Rattle.tv_top.proofs.Found.{settles_found}
+use Rattle.tv_top.proofs.Found.{settles_found, ended_so}
 use Rattle.tv_top.proofs.ending.ends_under_rows.Goals as goal
 
 pub returns-in-Ok : goal.returns-in-Ok
@@ -15,7 +19,14 @@ returns-in-Ok g c = λ f is.
 
 pub returns-in-Err : goal.returns-in-Err
 returns-in-Err g c = λ f is.
-    let about = cases_of c.args.search.now.about.now in
+    let search = c.args.search.now in
+    let task = task_view search.task.now in
+    let p = system_of search.program.now in
+    let about = cases_of search.about.now in
+    let fault = c.in-Err.fault in
+    let answer = c.ended.result in
+    let n : normal f ≡ term = sym is.proved ∙ c.requires.ends in
     let offers : Offers = λ about. Gave (λ p. (goal.Proposer-dyn g (p.vtable, p.value)).rest p.value about) c.args.proposers.now.items in
-    let refused : RefusesFound about (offers about) c.args.budget.now c.in-Err.fault = c.in-Err.ensures.refusals in
-    c.ended.ensures offers (found c.requires.unsettled refused) f is
+    let refused = subst (λ b. RefusesFound about (offers about) b fault) c.requires.budget c.in-Err.ensures.refusals in
+    let ends = subst (λ b. IsEndAnswer task.wanted p f about b fault answer) c.requires.budget (c.ended.ensures f is) in
+    ended_so offers task p f about n fault (found c.requires.unsettled refused) answer ends

@@ -37,3 +37,7 @@ returns-clause-generated c = refl
 pub returns-clause-traced : goal.returns-clause-traced
 unfolding clap_on_literals
 returns-clause-traced c = refl
+
+pub returns-clause-visited : goal.returns-clause-visited
+unfolding clap_on_literals
+returns-clause-visited c = refl

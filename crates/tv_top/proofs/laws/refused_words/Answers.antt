@@ -89,3 +89,23 @@ returns-clause-traced_formula c = refl
 pub returns-clause-traced_and_made : goal.returns-clause-traced_and_made
 unfolding clap_on_literals
 returns-clause-traced_and_made c = refl
+
+pub returns-clause-visited_and_checked : goal.returns-clause-visited_and_checked
+unfolding clap_on_literals
+returns-clause-visited_and_checked c = refl
+
+pub returns-clause-visited_and_written : goal.returns-clause-visited_and_written
+unfolding clap_on_literals
+returns-clause-visited_and_written c = refl
+
+pub returns-clause-visited_and_traced : goal.returns-clause-visited_and_traced
+unfolding clap_on_literals
+returns-clause-visited_and_traced c = refl
+
+pub returns-clause-visited_and_made : goal.returns-clause-visited_and_made
+unfolding clap_on_literals
+returns-clause-visited_and_made c = refl
+
+pub returns-clause-visited_and_named : goal.returns-clause-visited_and_named
+unfolding clap_on_literals
+returns-clause-visited_and_named c = refl

@@ -1,4 +1,4 @@
-use Rattle.std.proofs.Common.{length, subst, sym}
+use Rattle.std.proofs.Common.{length, subst, sym, ◌∙◌}
 use Rattle.tv_program.specs.Programs.{system_of}
 use Rattle.tv_formula.specs.Formulas.{property_of}
 use Rattle.tv_cases.specs.Systems.{cases_of}
@@ -6,7 +6,7 @@ use Rattle.tv_invariant.specs.Asking.{Gave}
 use Rattle.tv_top.specs.Finding.{Offers}
 use Rattle.tv_top.specs.Headline.{Given, Asked, Tells, Means}
 use Rattle.tv_top.specs.Views.{task_view}
-use Rattle.tv_top.proofs.Asking.{below_index, no_property, no_cases, told}
+use Rattle.tv_top.proofs.Asking.{below_index, no_property, no_cases, told, visited}
 use Rattle.tv_top.proofs.running.decide.Goals as goal
 
 pub check_certificate-requires-clause-bounded : goal.check_certificate-requires-clause-bounded
@@ -54,7 +54,7 @@ returns-then-task g c =
     let asked : Asked task c.args.bytes.now = record { given = given; property = property_of c.in-Ok-property.property; named = c.in-Ok-property.ensures.named } in
     let about = cases_of c.in-Ok-cases.about in
     let offers : Offers = λ about. Gave (λ p. (goal.Proposer-dyn g (p.vtable, p.value)).rest p.value about) c.args.proposers.now.items in
-    told offers task c.args.bytes.now asked about c.in-Ok-cases.ensures.exact c.in-Ok-cases.ensures.same_program c.check_certificate.result
+    told offers task c.args.bytes.now asked (sym c.has_certificates.ensures ∙ c.if-not-has_certificates.false) about c.in-Ok-cases.ensures.exact c.in-Ok-cases.ensures.same_program c.check_certificate.result
     (subst (λ checks. Tells checks offers task given.program asked.property about given.certificate_text c.check_certificate.result) (sym c.if-task.true) c.check_certificate.ensures)
 
 pub returns : goal.returns
@@ -70,5 +70,19 @@ returns g c =
     let asked : Asked task c.args.bytes.now = record { given = given; property = property_of c.in-Ok-property.property; named = c.in-Ok-property.ensures.named } in
     let about = cases_of c.in-Ok-cases.about in
     let offers : Offers = λ about. Gave (λ p. (goal.Proposer-dyn g (p.vtable, p.value)).rest p.value about) c.args.proposers.now.items in
-    told offers task c.args.bytes.now asked about c.in-Ok-cases.ensures.exact c.in-Ok-cases.ensures.same_program c.find.result
+    told offers task c.args.bytes.now asked (sym c.has_certificates.ensures ∙ c.if-not-has_certificates.false) about c.in-Ok-cases.ensures.exact c.in-Ok-cases.ensures.same_program c.find.result
     (subst (λ checks. Tells checks offers task given.program asked.property about given.certificate_text c.find.result) (sym c.if-task.false) c.find.ensures)
+
+pub returns-then-not-has_certificates : goal.returns-then-not-has_certificates
+returns-then-not-has_certificates g c =
+    let task = task_view c.args.task.now in
+    let given : Given task c.args.bytes.now = record {
+      program_text = c.texts_in.result.0.now;
+      certificate_text = c.texts_in.result.1.now;
+      texts = c.texts_in.ensures.texts;
+      program = system_of c.in-Ok.program;
+      is_program = c.in-Ok.ensures.found;
+    } in
+    let asked : Asked task c.args.bytes.now = record { given = given; property = property_of c.in-Ok-property.property; named = c.in-Ok-property.ensures.named } in
+    let offers : Offers = λ about. Gave (λ p. (goal.Proposer-dyn g (p.vtable, p.value)).rest p.value about) c.args.proposers.now.items in
+    visited offers task c.args.bytes.now asked (sym c.has_certificates.ensures ∙ c.if-not-has_certificates.true) c.visited.result c.visited.ensures
