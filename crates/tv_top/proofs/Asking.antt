@@ -14,7 +14,7 @@ use Rattle.tv_formula_reader.specs.declared.fault.FormulaFault.TheVariants as fa
 use Rattle.tv_top.specs.declared.answer.Answer.{Answer}
 use Rattle.tv_top.specs.declared.answer.Answer.TheVariants.{Proved, Disproved, Obligation, CertificateLine, Words, TooLong, Text, Property, Condition, WideEdge, TooManyInEdge, Unknown, ReadFault, Memory}
 use Rattle.tv_top.specs.Answers.{without_cases, without_property}
-use Rattle.tv_top.specs.Headline.{Given, Asked, Visited, Tells, Means, IsAnswer, unasked, of_made, too_long, decided, failed, without_memory, most_bytes}
+use Rattle.tv_top.specs.Headline.{Given, Asked, Tells, Means, IsAnswer, unasked, of_made, too_long, decided, failed, without_memory, most_bytes}
 use Rattle.tv_top.specs.Properties.{IsUnnamed, UnlessMemory}
 use Rattle.tv_top.specs.Finding.{Offers}
 use Rattle.tv_top.specs.Visiting.{FindsFinitely}

@@ -1,5 +1,5 @@
 -- What visits that were found show, and why there are none.
-use Rattle.std.proofs.Common.{◌≡◌, List, [], refl}
+use Rattle.std.proofs.Common.{◌≡◌, refl}
 use Rattle.tv_program.specs.Systems.{System}
 use Rattle.tv_formula.specs.Properties.{Property}
 use Rattle.tv_farkas.specs.declared.fault.CoverFault.{CoverFault}

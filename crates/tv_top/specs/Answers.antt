@@ -23,7 +23,7 @@ use Rattle.tv_nested.specs.declared.fault.NestName.TheVariants as nests
 use Rattle.tv_nested.specs.declared.fault.NestFault.{NestFault}
 use Rattle.tv_nested.specs.declared.fault.NestFault.TheVariants as nested
 use Rattle.tv_top.specs.declared.named_system.NamedSystem.{NamedSystem}
-use Rattle.tv_top.specs.declared.named_system.NamedSystem.TheVariants.{Searched, Nested, Visited}
+use Rattle.tv_top.specs.declared.named_system.NamedSystem.TheVariants.{Searched, Nested}
 use Rattle.tv_points.specs.declared.fault.PointFault.{PointFault}
 use Rattle.tv_points.specs.declared.fault.PointFault.TheVariants as points
 use Rattle.tv_check_text.specs.declared.text.TextFailing.{TextFailing}
@@ -37,7 +37,7 @@ use Rattle.tv_finitely.specs.declared.split_program.SplitFault.TheVariants as sp
 use Rattle.tv_top.specs.declared.answer.Answer.{Answer}
 use Rattle.tv_top.specs.declared.answer.Answer.TheVariants.{Proved, Disproved, Obligation, CertificateLine, Words, TooLong, Text, Property, Condition, WideEdge, TooManyInEdge, Unknown, ReadFault, Memory}
 use Rattle.tv_top.specs.declared.cause.Cause.{Cause}
-use Rattle.tv_top.specs.declared.cause.Cause.TheVariants.{Unsolved, Spent, Composed, Unranked}
+use Rattle.tv_top.specs.declared.cause.Cause.TheVariants.{Unsolved, Spent, Composed}
 use Rattle.tv_top.specs.declared.status.Status.{Status}
 use Rattle.tv_top.specs.declared.status.Status.TheVariants as statuses
 use Rattle.tv_top.specs.declared.system_fault.SystemFault.TheVariants as kept

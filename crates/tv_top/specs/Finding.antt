@@ -30,7 +30,7 @@ use Rattle.tv_nested.specs.declared.fault.NestName.{NestName}
 use Rattle.tv_nested.specs.declared.fault.NestFault.{NestFault}
 use Rattle.tv_nested.specs.declared.fault.NestFault.TheVariants as nests
 use Rattle.tv_top.specs.declared.named_system.NamedSystem.{NamedSystem}
-use Rattle.tv_top.specs.declared.named_system.NamedSystem.TheVariants.{Searched, Nested, Visited}
+use Rattle.tv_top.specs.declared.named_system.NamedSystem.TheVariants.{Searched}
 use Rattle.tv_top.specs.Answers.{nest_system}
 use Rattle.tv_simplex.specs.declared.fault.SolveFault.{SolveFault}
 use Rattle.tv_simplex.specs.declared.fault.SolveFault.TheVariants as solving

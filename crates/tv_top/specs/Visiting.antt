@@ -1,10 +1,8 @@
 -- What the answer says where it is asked whether a property of states holds only finitely often on every run.
-use Rattle.std.specs.Prelude.{◌≡◌, ℕ, List, []}
+use Rattle.std.specs.Prelude.{◌≡◌, []}
 use Rattle.tv_program.specs.Systems.{System}
 use Rattle.tv_formula.specs.Properties.{Property}
-use Rattle.tv_candidates.specs.declared.candidate.Candidate.{Candidate}
 use Rattle.tv_cert.specs.Obligations.{AllMet}
-use Rattle.tv_farkas.specs.declared.budget.Budget.{Budget}
 use Rattle.tv_farkas.specs.declared.fault.CoverFault.{CoverFault}
 use Rattle.tv_farkas.specs.declared.fault.CoverFault.TheVariants as covers
 use Rattle.tv_rank.specs.declared.name.Name.TheVariants.{Rows}
@@ -15,12 +13,11 @@ use Rattle.tv_finitely.specs.Shapes.{VisitShape}
 use Rattle.tv_finitely.specs.Splits.{SplitSystem, IsSplitOf, IsSplitFault}
 use Rattle.tv_finitely.specs.declared.fault.VisitFault.{VisitFault}
 use Rattle.tv_finitely.specs.declared.fault.VisitFault.TheVariants as visits
-use Rattle.tv_finitely.specs.declared.split_program.SplitFault.{SplitFault}
 use Rattle.tv_top.specs.Answers.{unsettled}
 use Rattle.tv_top.specs.Finding.{Offers, budget_of}
 use Rattle.tv_top.specs.Tasks.{Task}
 use Rattle.tv_top.specs.declared.answer.Answer.{Answer}
-use Rattle.tv_top.specs.declared.answer.Answer.TheVariants.{Proved, Disproved, Obligation, CertificateLine, Words, TooLong, Text, Property as Unnamed, Condition, WideEdge, TooManyInEdge, Unknown, ReadFault, Memory}
+use Rattle.tv_top.specs.declared.answer.Answer.TheVariants.{Proved, Condition, Unknown, Memory}
 use Rattle.tv_top.specs.declared.cause.Cause.{Cause}
 use Rattle.tv_top.specs.declared.cause.Cause.TheVariants.{Spent, Composed, Unranked}
 use Rattle.tv_top.specs.declared.named_system.NamedSystem.TheVariants.{Visited}

@@ -1,4 +1,3 @@
-use Rattle.std.specs.Prelude.{IfOk}
 use Rattle.tv_cases.specs.Systems.{cases_of}
 use Rattle.tv_cert.specs.Claims.{about_with, shown}
 use Rattle.tv_top.proofs.finding.text_of.Goals as goal
