@@ -68,7 +68,7 @@ const OPEN: &[Asked] = &[
     (
         &["--pivots", "1", "--finitely", "x < 10"],
         &[COUNTER],
-        "Unknown pivots\nsystem visits empty 0 bases 1\n",
+        "Unknown pivots\nsystem visits empty 1 bases 1\n",
         Status::Unknown,
     ),
 ];
