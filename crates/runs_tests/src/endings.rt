@@ -92,7 +92,7 @@ const THREE_PHASES: &str =
 const TURNING: &str =
     "START: 0; FROM: 0; assume(i < 0); i := -i - 1; TO: 0; FROM: 0; assume(i > 0); i := -i + 1; TO: 0;";
 
-const FIVE_PHASES: &str =
+pub(crate) const FIVE_PHASES: &str =
     "START: 0; FROM: 0; assume(x > 0); x := x + y; y := y + z; z := z + w; w := w + v; v := v - 1; TO: 0;";
 
 /// Programs all of whose runs are shown to end by ranks of places that are split by rows.

@@ -1,3 +1,4 @@
+use crate::endings::FIVE_PHASES;
 use crate::file::{FILE, says_with_ends};
 use crate::texts::{Asked, expect_said, expect_shown, output};
 use crate::words::COUNTDOWN;
@@ -327,7 +328,7 @@ fn pieces_that_nothing_enters_are_left_out(rt: HostRuntime) {
 const LEFT_OPEN: &[Asked] = &[
     (
         &["--ctl", "[AF](x <= 0)"],
-        &[TURNING],
+        &[FIVE_PHASES],
         "Unknown template\nsubformula 0\n",
         Status::Unknown,
     ),
